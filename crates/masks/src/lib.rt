@@ -1,0 +1,42 @@
+// Sets of slots as u64 masks: the operations that the calls use, each said of membership.
+// They take any number for a slot, so that none of them asks anything of its caller: a set has
+// no slot above 63.
+ghost use mathlib.Core.Path.{_≡_};
+ghost use mathlib.Core.Bool.{_&&_, _||_, not};
+ghost use lib.Dec.{eqb};
+ghost use Rattle.masks.specs.Sets.{has, setOf, Sub};
+ghost use Rattle.masks.specs.Decides.{Decides};
+
+// Whether slot i is in the set.
+pub fn has(set: u64, i: usize) -> bool
+    ensures { λ r. ⌜ r ≡ has set i ⌝ }
+{
+    if 63 < i {
+        return false;
+    }
+    (set >> i) & 1 == 1
+}
+
+// The set with slot i besides.
+pub fn with(set: u64, i: usize) -> u64
+    ensures { λ r. ⌜ r ≡ setOf (λ k. has set k || eqb k i) ⌝ }
+{
+    if 63 < i {
+        return set;
+    }
+    set | 1u64 << i
+}
+
+// The set without the slots of another.
+pub fn without(set: u64, gone: u64) -> u64
+    ensures { λ r. ⌜ r ≡ setOf (λ k. has set k && not (has gone k)) ⌝ }
+{
+    set & !gone
+}
+
+// Whether every slot of a is in b.
+pub fn within(a: u64, b: u64) -> bool
+    ensures { λ r. ⌜ Decides (Sub a b) r ⌝ }
+{
+    if a & !b == 0 { true } else { false }
+}

@@ -1,0 +1,2 @@
+-- What bytes laid over bytes give.
+pub mod Spans
