@@ -17,6 +17,10 @@ has m i = eqb (bit m i) 1
 abbrev pub Sub : ℕ → ℕ → Type 0
 Sub a b = (i : ℕ) → has a i ≡ true → has b i ≡ true
 
+-- some slot is in a and in b
+abbrev pub Meet : ℕ → ℕ → Type 0
+Meet a b = (i : ℕ) × (has a i ≡ true) × (has b i ≡ true)
+
 -- the set of the slots below n that pass the test p
 unfoldable pub setBelow : (ℕ → Bool) → ℕ → ℕ
 setBelow p zero = 0

@@ -4,7 +4,7 @@
 ghost use mathlib.Core.Path.{_≡_};
 ghost use mathlib.Core.Bool.{_&&_, _||_, not};
 ghost use lib.Dec.{eqb};
-ghost use Rattle.masks.specs.Sets.{has, setOf, Sub};
+ghost use Rattle.masks.specs.Sets.{has, setOf, Sub, Meet};
 ghost use Rattle.masks.specs.Decides.{Decides};
 
 // Whether slot i is in the set.
@@ -39,4 +39,11 @@ pub fn within(a: u64, b: u64) -> bool
     ensures { λ r. ⌜ Decides (Sub a b) r ⌝ }
 {
     if a & !b == 0 { true } else { false }
+}
+
+// Whether some slot is in both.
+pub fn meets(a: u64, b: u64) -> bool
+    ensures { λ r. ⌜ Decides (Meet a b) r ⌝ }
+{
+    if a & b == 0 { false } else { true }
 }

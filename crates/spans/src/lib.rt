@@ -1,10 +1,13 @@
 // Bytes laid over bytes. One function copies: a change into the working image, old bytes into an
 // undo room, a block to be handed out, and old bytes back into it.
 ghost use mathlib.Core.Path.{_≡_};
+ghost use Prim.Native.Nat.{_-_, min};
 ghost use Rattle.spans.specs.Spans.{splice, part};
 
 // The most bytes, up to n, that fit from place `at` of `len` bytes.
-fn fitting(n: usize, at: usize, len: usize) -> usize {
+fn fitting(n: usize, at: usize, len: usize) -> usize
+    ensures { λ r. ⌜ r ≡ min n (len - at) ⌝ }
+{
     if len <= at {
         return 0;
     }

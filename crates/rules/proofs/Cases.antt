@@ -1,0 +1,39 @@
+-- The first case that holds: how it is shown, and that it is one. Every promise's refusals rest on these.
+use Prim.Native.Nat.{ℕ}
+use mathlib.Core.Path.{_≡_, refl, sym, _∙_}
+use mathlib.Core.List.{List, [], _∷_}
+use mathlib.Core.Logic.{_⊎_, inl, inr}
+use Rattle.rules.specs.Refusals.{Case, case, FirstOf, First}
+
+pub holds : {n : ℕ} {C : Type 0} {rest : List Case} → C → First (case n C ∷ rest) n
+unfolding FirstOf
+holds c = record { is = inl (c, refl) }
+
+pub passes : {n k : ℕ} {C : Type 0} {rest : List Case} → (C → ⊥) → First rest k → First (case n C ∷ rest) k
+unfolding FirstOf
+passes c f = record { is = inr (c, f .is) }
+
+pub none-holds : First [] 0
+unfolding FirstOf
+none-holds = record { is = refl }
+
+-- a case that does not hold is passed
+pub passed : {n k : ℕ} {C : Type 0} {rest : List Case} → (k ≡ n → ⊥) → First (case n C ∷ rest) k → (C → ⊥) × First rest k
+unfolding FirstOf
+passed {n} {k} {C} {rest} d f = go (f .is)
+  where
+    go : (C × (k ≡ n)) ⊎ ((C → ⊥) × FirstOf rest k) → (C → ⊥) × First rest k
+    go (inl p) = absurd (d (p .1))
+    go (inr p) = (p .0, record { is = p .1 })
+
+one : (cases : List Case) (j k : ℕ) → FirstOf cases j → FirstOf cases k → j ≡ k
+unfolding FirstOf
+one [] j k p q = p ∙ sym q
+one (c ∷ rest) j k (inl p) (inl q) = p .1 ∙ sym (q .1)
+one (c ∷ rest) j k (inl p) (inr q) = absurd (q .0 (p .0))
+one (c ∷ rest) j k (inr p) (inl q) = absurd (p .0 (q .0))
+one (c ∷ rest) j k (inr p) (inr q) = one rest j k (p .1) (q .1)
+
+-- the first refusal that holds is one
+pub first-one : {cases : List Case} {j k : ℕ} → First cases j → First cases k → j ≡ k
+first-one {cases} {j} {k} p q = one cases j k (p .is) (q .is)

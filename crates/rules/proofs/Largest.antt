@@ -1,0 +1,40 @@
+-- Subsets that may go are closed under union, so there is one largest.
+use Prim.Native.Nat.{ℕ, _<_}
+use mathlib.Core.Path.{_≡_, refl, sym, _∙_}
+use mathlib.Core.Bool.{Bool, true, false, _||_}
+use mathlib.Core.List.{List}
+use mathlib.Core.Logic.{_⊎_, inl, inr, ⊎-elim}
+use Rattle.masks.specs.Sets.{has, setOf, Sub}
+use Rattle.masks.proofs.Laws.{has-set, has-slot, set-lt, same-sub}
+use Rattle.masks.proofs.Decided.{or-true, true-or-l, true-or-r}
+use Rattle.rules.specs.declared.Slot.{Slot}
+use Rattle.rules.specs.Write.{MayGo, Largest}
+
+-- the slots of a and of b
+abbrev pub union : ℕ → ℕ → ℕ
+union a b = setOf (λ i. has a i || has b i)
+
+in-union : (u v i : ℕ) → i < 64 → (has u i ≡ true) ⊎ (has v i ≡ true) → has (union u v) i ≡ true
+in-union u v i l e = has-set (λ k. has u k || has v k) i l ∙ ⊎-elim (λ p. true-or-l (has v i) p) (λ p. true-or-r (has u i) p) e
+
+of-union : (u v i : ℕ) → has (union u v) i ≡ true → (has u i ≡ true) ⊎ (has v i ≡ true)
+of-union u v i e =
+    or-true (has u i) (has v i) (sym (has-set (λ k. has u k || has v k) i (has-slot (union u v) i (set-lt (λ k. has u k || has v k)) e)) ∙ e)
+
+module _ {ss : List Slot} {b : ℕ} where
+  pub union-may-go : (u v : ℕ) → MayGo ss b u → MayGo ss b v → MayGo ss b (union u v)
+  union-may-go u v p q = record {
+    set = set-lt (λ k. has u k || has v k);
+    within = λ i e. ⊎-elim (p .within i) (q .within i) (of-union u v i e);
+    closed = λ i e j h.
+        ⊎-elim
+        (λ m. let g = p .closed i m j h in in-union u v j (has-slot u j (p .set) g) (inl g))
+        (λ m. let g = q .closed i m j h in in-union u v j (has-slot v j (q .set) g) (inr g))
+        (of-union u v i e);
+    hards = λ i e h l d.
+        ⊎-elim (λ m. in-union u v h l (inl (p .hards i m h l d))) (λ m. in-union u v h l (inr (q .hards i m h l d))) (of-union u v i e);
+  }
+
+  -- any two largest are equal
+  pub largest-one : (u v : ℕ) → Largest ss b u → Largest ss b v → u ≡ v
+  largest-one u v p q = same-sub u v (p .goes .set) (q .goes .set) (q .most u (p .goes)) (p .most v (q .goes))

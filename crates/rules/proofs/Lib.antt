@@ -1,0 +1,15 @@
+-- Laws that pin the definitions, and the worked rows.
+pub mod Cases
+pub mod Outcomes
+pub mod SlotsBy
+pub mod Lowest
+pub mod Largest
+pub mod Pins
+pub mod Grants
+pub mod OneAnswer
+pub mod StaysSound
+pub mod SoundCalls
+pub mod Computed
+pub mod Steps
+pub mod Session
+pub mod Rows

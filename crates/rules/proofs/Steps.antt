@@ -1,0 +1,185 @@
+-- A call on concrete tables, from tests that compute: what each row of the worked session is shown with.
+use Prim.Native.Nat.{ℕ, _+_, _<_, _≤_, _^_}
+use mathlib.Core.Path.{_≡_, refl, sym, ap, subst, _∙_}
+use mathlib.Core.Bool.{Bool, true, false, _&&_, not}
+use mathlib.Core.List.{List, [], _∷_}
+use mathlib.Core.Logic.{_⊎_, inl, inr, ⊎-elim}
+use native.Mathlib.Omega.{arith}
+use borrow.Author.Tests.{leb-true, ltb-true, not-true}
+use lib.Dec.{leb, ltb}
+use lib.ListN.{length}
+use Rattle.masks.specs.Sets.{has}
+use Rattle.masks.proofs.Laws.{has-none, no-member, a-member, has-slot}
+use Rattle.masks.proofs.Decided.{clash, and-true, true-or-false}
+use Rattle.spans.proofs.Laws.{length-splice}
+use Rattle.rules.specs.declared.Hold.{Hold}
+use Rattle.rules.specs.declared.Hold.the-variants as hold
+use Rattle.rules.specs.declared.Slot.{Slot}
+use Rattle.rules.specs.Sizes.{blocks, blockBytes, imageBytes, undoBytes, slots, mostBytes, mostNamed, lastNumber}
+use Rattle.rules.specs.Table.{Table, slotAt, fliesOn, waitsOn, Sound}
+use Rattle.rules.specs.Create.{Change, Lowest, FreeSlot, HoldOf, changed, kept}
+use Rattle.rules.specs.Write.{MayGo, Largest}
+use Rattle.rules.specs.Refusals.{First, NoRoom, createCases, writeCases, completeCases}
+use Rattle.rules.specs.Calls.{Creation, Creates, createGranted, createRefused, Writing, Writes, writeGranted, writeRefused, Completion, Completes, completeGranted}
+use Rattle.rules.specs.Rows.{Radio}
+use Rattle.rules.proofs.Cases.{holds, passes, none-holds}
+use Rattle.rules.proofs.Outcomes.{refuses, grants}
+use Rattle.rules.proofs.SoundCalls.{create-sound, write-sound, complete-sound}
+use Rattle.rules.proofs.Computed.{passesBelow, passes-at, allIssued, names-issued, round, rounds, rounds-largest}
+
+-- a sound table and buffers of their sizes
+pub record Good (r : Radio) : Type 0 where
+  pub sound : Sound (r .table)
+  pub image-whole : length (r .image) ≡ imageBytes
+  pub undo-whole : length (r .undo) ≡ undoBytes
+
+abbrev pub afterCreate : Creation → Radio
+afterCreate o = record { table = o .table; image = o .image; undo = o .undo }
+
+abbrev pub afterWrite : Writing → Radio
+afterWrite o = record { table = o .table; image = o .image; undo = o .undo }
+
+abbrev pub afterComplete : Radio → Completion → Radio
+afterComplete r o = record { table = o .table; image = r .image; undo = r .undo }
+
+-- a granted call on what a radio has: that it is one, and that table and buffers are good after it
+abbrev pub Made : Radio → Change → ℕ → Hold → Type 0
+Made r c j h = Creates (r .table) (r .image) (r .undo) c (createGranted (r .table) (r .image) (r .undo) c j h) × Good (afterCreate (createGranted (r .table) (r .image) (r .undo) c j h))
+
+abbrev pub Went : Radio → List ℕ → ℕ → ℕ → Type 0
+Went r lent b s = Writes (r .table) (r .image) (r .undo) lent b (writeGranted (r .table) (r .image) (r .undo) b s) × Good (afterWrite (writeGranted (r .table) (r .image) (r .undo) b s))
+
+abbrev pub Done : Radio → ℕ → Type 0
+Done r b = Completes (r .table) b (completeGranted (r .table) b) × Good (afterComplete r (completeGranted (r .table) b))
+
+-- a refused write
+abbrev pub Stayed : Radio → List ℕ → ℕ → ℕ → Type 0
+Stayed r lent b k = Writes (r .table) (r .image) (r .undo) lent b (writeRefused (r .table) (r .image) (r .undo) lent k)
+
+-- ---- create
+
+-- block, length, end and numbers of the change are within their bounds
+unfoldable pub inBounds : Table → Change → Bool
+inBounds t c =
+    ltb (c .block) blocks && (leb 1 (length (c .bytes)) && (leb (length (c .bytes)) mostBytes && (leb (c .offset + length (c .bytes)) blockBytes && (leb (length (c .named)) mostNamed && (allIssued t (c .named) && leb (t .next) lastNumber)))))
+
+room-for : (ss : List Slot) (c : Change) (h : Hold) → HoldOf ss (c .block) h → NoRoom ss c → ⊥
+room-for ss c h (HoldOf.hard w) n = n .0 w
+room-for ss c h (HoldOf.soft {r = r} w low) n = n .1 r (low .within) (low .holds)
+
+length-kept : (undo image : List ℕ) (c : Change) (h : Hold) → length (kept undo image c h) ≡ length undo
+unfolding kept
+length-kept undo image c hold.Hard = refl
+length-kept undo image c (hold.Soft r) = length-splice undo _ _
+
+module _ (r : Radio) (g : Good r) where
+  created : (c : Change) (j : ℕ) (h : Hold) → inBounds (r .table) c ≡ true → Lowest slots (FreeSlot (r .table .slots)) j → HoldOf (r .table .slots) (c .block) h
+      → Creates (r .table) (r .image) (r .undo) c (createGranted (r .table) (r .image) (r .undo) c j h)
+  unfolding inBounds
+  created c j h e low held =
+      let w1 = and-true (ltb (c .block) blocks) _ e in
+      let w2 = and-true (leb 1 (length (c .bytes))) _ (w1 .1) in
+      let w3 = and-true (leb (length (c .bytes)) mostBytes) _ (w2 .1) in
+      let w4 = and-true (leb (c .offset + length (c .bytes)) blockBytes) _ (w3 .1) in
+      let w5 = and-true (leb (length (c .named)) mostNamed) _ (w4 .1) in
+      let w6 = and-true (allIssued (r .table) (c .named)) _ (w5 .1) in
+      let b1 : c .block < blocks = ltb-true _ _ (w1 .0) in
+      let b2 : 1 ≤ length (c .bytes) = leb-true _ _ (w2 .0) in
+      let b3 : length (c .bytes) ≤ mostBytes = leb-true _ _ (w3 .0) in
+      let b4 : c .offset + length (c .bytes) ≤ blockBytes = leb-true _ _ (w4 .0) in
+      let b5 : length (c .named) ≤ mostNamed = leb-true _ _ (w5 .0) in
+      let b6 : r .table .next ≤ lastNumber = leb-true _ _ (w6 .1) in
+      grants (createGranted (r .table) (r .image) (r .undo) c j h)
+      (passes (⊎-elim (λ n. n (g .image-whole)) (λ n. n (g .undo-whole)))
+      (passes (λ n. n (g .sound))
+      (passes (λ l. omega arith)
+      (passes (⊎-elim (λ l. omega arith) (λ l. omega arith))
+      (passes (λ l. omega arith)
+      (passes (λ l. omega arith)
+      (passes (names-issued (r .table) c (w6 .0))
+      (passes (λ l. omega arith)
+      (passes (λ n. n j (low .within) (low .holds))
+      (passes (room-for (r .table .slots) c h held)
+      none-holds))))))))))
+      refl
+      (record { slot = j; hold = h; lowest = low; hard-or-soft = held; whole = refl })
+
+  good-created : (c : Change) (o : Creation) → Creates (r .table) (r .image) (r .undo) c o → length (o .image) ≡ length (r .image) → length (o .undo) ≡ length (r .undo) → Good (afterCreate o)
+  good-created c o p i u = record { sound = create-sound (r .table) (r .image) (r .undo) c o (g .sound) p; image-whole = i ∙ g .image-whole; undo-whole = u ∙ g .undo-whole }
+
+  -- a granted create, and what it leaves
+  pub create-row : (c : Change) (j : ℕ) (h : Hold) → inBounds (r .table) c ≡ true → Lowest slots (FreeSlot (r .table .slots)) j → HoldOf (r .table .slots) (c .block) h
+      → Made r c j h
+  unfolding changed
+  create-row c j h e low held =
+      let p = created c j h e low held in
+      (p, good-created c (createGranted (r .table) (r .image) (r .undo) c j h) p (length-splice (r .image) _ _) (length-kept (r .undo) (r .image) c h))
+
+  -- ---- write
+
+  flies-not : (b : ℕ) → passesBelow (λ i. not (fliesOn (r .table .slots) b i)) slots ≡ true → (i : ℕ) × (i < slots) × (fliesOn (r .table .slots) b i ≡ true) → ⊥
+  flies-not b e f = clash (f .2) (not-true (fliesOn (r .table .slots) b (f .0)) (passes-at (λ i. not (fliesOn (r .table .slots) b i)) slots (f .0) e (f .1)))
+
+  module _ (b : ℕ) (lent : List ℕ) (is-block : b < blocks) (whole : length lent ≡ blockBytes) where
+    -- refused 11
+    pub write-flies : (i : ℕ) → i < slots → fliesOn (r .table .slots) b i ≡ true
+        → Stayed r lent b 11
+    write-flies i l f =
+        refuses 11
+        (passes (⊎-elim (λ n. n (g .image-whole)) (⊎-elim (λ n. n (g .undo-whole)) (λ n. n whole)))
+        (passes (λ n. n (g .sound))
+        (passes (λ l. omega arith)
+        (holds (i, l, f)))))
+        refl (λ e. omega arith)
+
+    module _ (n : ℕ) (small : passesBelow (λ i. ltb (slotAt (r .table .slots) i .befores) (2 ^ 64)) slots ≡ true)
+        (still : passesBelow (λ i. not (fliesOn (r .table .slots) b i)) slots ≡ true)
+        (settled : round (r .table .slots) b (rounds (r .table .slots) b n) ≡ rounds (r .table .slots) b n) where
+      largest : Largest (r .table .slots) b (rounds (r .table .slots) b n)
+      largest = rounds-largest (r .table .slots) b (λ i l. ltb-true _ _ (passes-at (λ i. ltb (slotAt (r .table .slots) i .befores) (2 ^ 64)) slots i small l)) n settled
+
+      -- refused 13
+      pub write-none : (i : ℕ) → i < slots → waitsOn (r .table .slots) b i ≡ true → rounds (r .table .slots) b n ≡ 0
+          → Stayed r lent b 13
+      write-none i l w z =
+          refuses 13
+          (passes (⊎-elim (λ n. n (g .image-whole)) (⊎-elim (λ n. n (g .undo-whole)) (λ n. n whole)))
+          (passes (λ n. n (g .sound))
+          (passes (λ l. omega arith)
+          (passes (flies-not b still)
+          (passes (λ n. n (i, l, w))
+          (holds ((i, l, w), λ s m. no-member s (m .set) (λ k q. nowhere s k (true-or-false (has s k)) (λ h. clash (subst (λ (x : ℕ). has x k ≡ true) z (largest .most s m k h)) (has-none k))))))))))
+          refl (λ e. omega arith)
+        where
+          nowhere : (s k : ℕ) → (has s k ≡ true) ⊎ (has s k ≡ false) → (has s k ≡ true → ⊥) → has s k ≡ false
+          nowhere s k (inl h) f = absurd (f h)
+          nowhere s k (inr h) f = h
+
+      -- granted
+      pub write-row : (s i : ℕ) → rounds (r .table .slots) b n ≡ s → has s i ≡ true
+          → Went r lent b s
+      write-row s i z h = (p, record { sound = write-sound (r .table) (r .image) (r .undo) lent b (writeGranted (r .table) (r .image) (r .undo) b s) (g .sound) p; image-whole = g .image-whole; undo-whole = g .undo-whole })
+        where
+          most : Largest (r .table .slots) b s
+          most = subst (Largest (r .table .slots) b) z largest
+
+          p : Writes (r .table) (r .image) (r .undo) lent b (writeGranted (r .table) (r .image) (r .undo) b s)
+          p =
+              grants (writeGranted (r .table) (r .image) (r .undo) b s)
+              (passes (⊎-elim (λ n. n (g .image-whole)) (⊎-elim (λ n. n (g .undo-whole)) (λ n. n whole)))
+              (passes (λ n. n (g .sound))
+              (passes (λ l. omega arith)
+              (passes (flies-not b still)
+              (passes (λ n. n (i, has-slot s i (most .goes .set) h, most .goes .within i h))
+              (passes (λ e. clash h (subst (λ (x : ℕ). has x i ≡ false) (sym (e .1 s (most .goes))) (has-none i)))
+              none-holds))))))
+              refl
+              (record { set = s; largest = most; whole = refl })
+
+  -- ---- complete
+  pub complete-row : (b i : ℕ) → b < blocks → i < slots → fliesOn (r .table .slots) b i ≡ true
+      → Done r b
+  complete-row b i is-block l f =
+      let p : Completes (r .table) b (completeGranted (r .table) b) =
+      grants (completeGranted (r .table) b) (passes (λ n. n (g .sound)) (passes (λ l. omega arith) (passes (λ n. n (i, l, f)) none-holds))) refl refl in
+      (p, record { sound = complete-sound (r .table) b (completeGranted (r .table) b) (g .sound) p; image-whole = g .image-whole; undo-whole = g .undo-whole })

@@ -1,0 +1,164 @@
+-- Each call whole: its answer, the next table and every lent byte, granted and refused alike. These are what the promises of `cache` cite.
+use Prim.Native.Nat.{ℕ}
+use mathlib.Core.Path.{_≡_}
+use mathlib.Core.List.{List}
+use mathlib.Core.Option.{Option, none, some}
+use Rattle.rules.specs.declared.Hold.{Hold}
+use Rattle.rules.specs.declared.CreateAnswer.{CreateAnswer}
+use Rattle.rules.specs.declared.CreateAnswer.the-variants as create
+use Rattle.rules.specs.declared.WriteAnswer.{WriteAnswer}
+use Rattle.rules.specs.declared.WriteAnswer.the-variants as write
+use Rattle.rules.specs.declared.AskAnswer.{AskAnswer}
+use Rattle.rules.specs.declared.AskAnswer.the-variants as ask
+use Rattle.rules.specs.declared.CountAnswer.{CountAnswer}
+use Rattle.rules.specs.declared.CountAnswer.the-variants as count
+use Rattle.rules.specs.declared.Answer.{Answer}
+use Rattle.rules.specs.declared.Answer.the-variants as plain
+use Rattle.rules.specs.Sizes.{slots}
+use Rattle.rules.specs.Table.{Table}
+use Rattle.rules.specs.Open.{opened}
+use Rattle.rules.specs.Create.{Change, Lowest, FreeSlot, HoldOf, accepted, changed, kept}
+use Rattle.rules.specs.Write.{Largest, handedOut, sent}
+use Rattle.rules.specs.Complete.{completed}
+use Rattle.rules.specs.Ask.{Asked}
+use Rattle.rules.specs.Count.{waitingOn}
+use Rattle.rules.specs.Refusals.{Case, First, openCases, createCases, writeCases, completeCases, askCases, countCases}
+
+-- An outcome o of a call: its refusal number is the first that holds among the call's cases; refused, the outcome is all as it came; granted, it is what the call does.
+pub record Outcome {O : Type 0} (cases : List Case) (number : O → ℕ) (refused : ℕ → O) (Granted : O → Type 0) (o : O) : Type 0 where
+  pub first : First cases (number o)
+  pub refusal : (number o ≡ 0 → ⊥) → o ≡ refused (number o)
+  pub grant : number o ≡ 0 → Granted o
+
+-- OPEN. The paper's number for each case of its answer, and of complete's
+abbrev pub plainNumber : Answer → ℕ
+plainNumber plain.Granted = 0
+plainNumber (plain.Refused k) = k
+
+pub record Opening : Type 0 where
+  pub answer : Answer
+  pub table : Table
+
+abbrev pub openRefused : ℕ → Opening
+openRefused k = record { answer = plain.Refused k; table = opened 1 }
+
+abbrev pub openGranted : ℕ → Opening
+openGranted n = record { answer = plain.Granted; table = opened n }
+
+abbrev pub Opens : ℕ → Opening → Type 0
+Opens n = Outcome (openCases n) (λ o. plainNumber (o .answer)) openRefused (λ o. o ≡ openGranted n)
+
+-- CREATE. The paper's refusal number, the patch's number, and hard or soft, for each case of its answer
+abbrev pub createNumber : CreateAnswer → ℕ
+createNumber (create.Granted n h) = 0
+createNumber (create.Refused k) = k
+
+abbrev pub patchNumber : CreateAnswer → ℕ
+patchNumber (create.Granted n h) = n
+patchNumber (create.Refused k) = 0
+
+abbrev pub hardOrSoft : CreateAnswer → Option Hold
+hardOrSoft (create.Granted n h) = some h
+hardOrSoft (create.Refused k) = none
+
+pub record Creation : Type 0 where
+  pub answer : CreateAnswer
+  pub table : Table
+  pub image : List ℕ
+  pub undo : List ℕ
+
+abbrev pub createRefused : Table → List ℕ → List ℕ → ℕ → Creation
+createRefused t image undo k = record { answer = create.Refused k; table = t; image = image; undo = undo }
+
+abbrev pub createGranted : Table → List ℕ → List ℕ → Change → ℕ → Hold → Creation
+createGranted t image undo c j h = record {
+  answer = create.Granted (t .next) h;
+  table = accepted t c j h;
+  image = changed image c;
+  undo = kept undo image c h;
+}
+
+-- the new patch gets the lowest free slot
+pub record Accepts (t : Table) (image undo : List ℕ) (c : Change) (o : Creation) : Type 0 where
+  pub slot : ℕ
+  pub hold : Hold
+  pub lowest : Lowest slots (FreeSlot (t .slots)) slot
+  pub hard-or-soft : HoldOf (t .slots) (c .block) hold
+  pub whole : o ≡ createGranted t image undo c slot hold
+
+abbrev pub Creates : Table → List ℕ → List ℕ → Change → Creation → Type 0
+Creates t image undo c = Outcome (createCases t image undo c) (λ o. createNumber (o .answer)) (createRefused t image undo) (Accepts t image undo c)
+
+-- WRITE. The paper's refusal number and the set of slots sent, for each case of its answer
+abbrev pub writeNumber : WriteAnswer → ℕ
+writeNumber (write.Granted s) = 0
+writeNumber (write.Refused k) = k
+
+abbrev pub sentSet : WriteAnswer → ℕ
+sentSet (write.Granted s) = s
+sentSet (write.Refused k) = 0
+
+pub record Writing : Type 0 where
+  pub answer : WriteAnswer
+  pub table : Table
+  pub image : List ℕ
+  pub undo : List ℕ
+  pub block : List ℕ
+
+abbrev pub writeRefused : Table → List ℕ → List ℕ → List ℕ → ℕ → Writing
+writeRefused t image undo block k = record { answer = write.Refused k; table = t; image = image; undo = undo; block = block }
+
+abbrev pub writeGranted : Table → List ℕ → List ℕ → ℕ → ℕ → Writing
+writeGranted t image undo b s = record {
+  answer = write.Granted s;
+  table = sent t s;
+  image = image;
+  undo = undo;
+  block = handedOut t b s image undo;
+}
+
+-- the largest set that may go, goes
+pub record Sends (t : Table) (image undo : List ℕ) (b : ℕ) (o : Writing) : Type 0 where
+  pub set : ℕ
+  pub largest : Largest (t .slots) b set
+  pub whole : o ≡ writeGranted t image undo b set
+
+abbrev pub Writes : Table → List ℕ → List ℕ → List ℕ → ℕ → Writing → Type 0
+Writes t image undo block b =
+    Outcome (writeCases t image undo block b) (λ o. writeNumber (o .answer)) (writeRefused t image undo block) (Sends t image undo b)
+
+-- COMPLETE
+pub record Completion : Type 0 where
+  pub answer : Answer
+  pub table : Table
+
+abbrev pub completeRefused : Table → ℕ → Completion
+completeRefused t k = record { answer = plain.Refused k; table = t }
+
+abbrev pub completeGranted : Table → ℕ → Completion
+completeGranted t b = record { answer = plain.Granted; table = completed t b }
+
+abbrev pub Completes : Table → ℕ → Completion → Type 0
+Completes t b = Outcome (completeCases t b) (λ o. plainNumber (o .answer)) (completeRefused t) (λ o. o ≡ completeGranted t b)
+
+-- ASK. The paper's number for each case of its answer; the three others are its words
+abbrev pub askNumber : AskAnswer → ℕ
+askNumber ask.Waiting = 0
+askNumber ask.InFlight = 0
+askNumber ask.Committed = 0
+askNumber (ask.Refused k) = k
+
+abbrev pub Asks : Table → ℕ → AskAnswer → Type 0
+Asks t n = Outcome (askCases t n) askNumber ask.Refused (Asked t n)
+
+-- COUNT. The paper's refusal number and the count, for each case of its answer
+abbrev pub countNumber : CountAnswer → ℕ
+countNumber (count.Granted n) = 0
+countNumber (count.Refused k) = k
+
+abbrev pub counted : CountAnswer → ℕ
+counted (count.Granted n) = n
+counted (count.Refused k) = 0
+
+abbrev pub Counts : Table → ℕ → CountAnswer → Type 0
+Counts t b = Outcome (countCases t b) countNumber count.Refused (λ a. a ≡ count.Granted (waitingOn (t .slots) b))

@@ -1,0 +1,111 @@
+-- Document 01, "Create".
+use Prim.Native.Nat.{ℕ, suc, _+_, _<_, min, max}
+use mathlib.Core.Path.{_≡_}
+use mathlib.Core.Bool.{Bool, true, false, cond, _&&_, _||_, not}
+use mathlib.Core.List.{List, [], _∷_}
+use lib.Dec.{eqb, ltb}
+use lib.ListN.{length}
+use Rattle.masks.specs.Sets.{has, setOf}
+use Rattle.spans.specs.Spans.{splice, part}
+use Rattle.rules.specs.declared.Hold.{Hold}
+use Rattle.rules.specs.declared.Hold.the-variants as hold
+use Rattle.rules.specs.declared.State.{State}
+use Rattle.rules.specs.declared.State.the-variants as state
+use Rattle.rules.specs.declared.Slot.{Slot}
+use Rattle.rules.specs.Sizes.{slots, rooms, blockStart, roomStart}
+use Rattle.rules.specs.Slots.{isWaiting, withState}
+use Rattle.rules.specs.Table.{Table, slotAt, used, waits, waitsOn, HasRoom, slotsBy, withSlots, withNext}
+
+-- create takes block, offset, data and named numbers
+pub record Change : Type 0 where
+  pub block : ℕ
+  pub offset : ℕ
+  pub bytes : List ℕ
+  pub named : List ℕ
+
+-- P holds of r, of the numbers below n, and of no lower one
+pub record Lowest (n : ℕ) (P : ℕ → Type 0) (r : ℕ) : Type 0 where
+  pub within : r < n
+  pub holds : P r
+  pub least : (i : ℕ) → i < r → P i → ⊥
+
+-- slot i is free
+abbrev pub FreeSlot : List Slot → ℕ → Type 0
+FreeSlot ss i = used ss i ≡ false
+
+-- n is one of the numbers; one named twice counts once
+unfoldable pub isIn : ℕ → List ℕ → Bool
+isIn n [] = false
+isIn n (m ∷ l) = eqb n m || isIn n l
+
+-- the range of l bytes from o and that of m bytes from p share a byte: the later start is before the earlier end
+abbrev pub shares : ℕ → ℕ → ℕ → ℕ → Bool
+shares o l p m = ltb (max o p) (min (o + l) (p + m))
+
+-- slot i has a number that is named; a committed number is in no slot
+abbrev pub isNamed : List Slot → Change → ℕ → Bool
+isNamed ss c i = used ss i && isIn (slotAt ss i .number) (c .named)
+
+-- slot i has a waiting or in-flight patch of the same block whose byte range shares a byte with the new one
+abbrev pub overlaps : List Slot → Change → ℕ → Bool
+overlaps ss c i = used ss i && (eqb (slotAt ss i .block) (c .block) && shares (slotAt ss i .offset) (slotAt ss i .len) (c .offset) (length (c .bytes)))
+
+-- the befores of the new patch
+unfoldable pub befores : List Slot → Change → ℕ
+befores ss c = setOf (λ i. isNamed ss c i || overlaps ss c i)
+
+-- patch k, on another block, has patch i, waiting on block b, among its befores
+abbrev pub holdsBack : List Slot → ℕ → ℕ → ℕ → Bool
+holdsBack ss b k i = (used ss k && not (eqb (slotAt ss k .block) b)) && (has (slotAt ss k .befores) i && waitsOn ss b i)
+
+-- the new patch is hard: no patch on another block has a waiting patch of this block among its befores
+unfoldable pub WouldBeHard : List Slot → ℕ → Type 0
+WouldBeHard ss b = (k i : ℕ) → k < slots → i < slots → holdsBack ss b k i ≡ false
+
+-- room r is free
+abbrev pub FreeRoom : List Slot → ℕ → Type 0
+FreeRoom ss r = (i : ℕ) → i < slots → HasRoom ss i r → ⊥
+
+-- whether the new patch is hard or soft: a soft creation takes the lowest free room
+pub data HoldOf (ss : List Slot) (b : ℕ) : Hold → Type 0 where
+  hard : WouldBeHard ss b → HoldOf ss b hold.Hard
+  soft : {r : ℕ} → (WouldBeHard ss b → ⊥) → Lowest rooms (FreeRoom ss) r → HoldOf ss b (hold.Soft r)
+
+-- a hard creation turns every waiting soft patch of the block hard and frees their rooms; a soft one leaves all as it is
+abbrev pub turnedState : State → State
+turnedState state.Free = state.Free
+turnedState (state.Waiting h) = state.Waiting hold.Hard
+turnedState (state.InFlight k) = state.InFlight k
+
+abbrev pub turned : Hold → ℕ → Slot → Slot
+turned hold.Hard b s = cond (eqb (s .block) b) (withState (turnedState (s .state)) s) s
+turned (hold.Soft r) b s = s
+
+-- the new patch: the number next, its block and range, waiting, with its befores
+unfoldable pub patch : Table → Change → Hold → Slot
+patch t c h = record { state = state.Waiting h; number = t .next; block = c .block; offset = c .offset; len = length (c .bytes); befores = befores (t .slots) c }
+
+-- the next slots: the new patch p in slot j
+unfoldable pub acceptedSlots : List Slot → Slot → ℕ → Hold → List Slot
+acceptedSlots ss p j h = slotsBy (λ i. cond (eqb i j) p (turned h (p .block) (slotAt ss i)))
+
+-- the next table; next grows by one
+unfoldable pub accepted : Table → Change → ℕ → Hold → Table
+accepted t c j h = withNext (t .next + 1) (withSlots (acceptedSlots (t .slots) (patch t c h) j h) t)
+
+-- where the change's range starts in the working image
+abbrev pub place : Change → ℕ
+place c = blockStart (c .block) + c .offset
+
+-- the data goes into the working image
+unfoldable pub changed : List ℕ → Change → List ℕ
+changed image c = splice image (place c) (c .bytes)
+
+-- the old bytes of the range, in the working image
+abbrev pub oldBytes : List ℕ → Change → List ℕ
+oldBytes image c = part image (place c) (length (c .bytes))
+
+-- a soft creation puts the old bytes into the first bytes of its room; a hard one changes no byte of the undo area
+unfoldable pub kept : List ℕ → List ℕ → Change → Hold → List ℕ
+kept undo image c hold.Hard = undo
+kept undo image c (hold.Soft r) = splice undo (roomStart r) (oldBytes image c)

@@ -1,0 +1,13 @@
+-- Document 01, section by section, in its order. docs/READING.md has the section beside each file.
+pub mod Sizes
+pub mod Slots
+pub mod Table
+pub mod Open
+pub mod Create
+pub mod Write
+pub mod Complete
+pub mod Ask
+pub mod Count
+pub mod Refusals
+pub mod Calls
+pub mod Rows

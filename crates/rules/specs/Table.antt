@@ -1,0 +1,99 @@
+-- Document 01, "The table": what a table holds, when it is sound, which numbers have committed.
+use Prim.Native.Nat.{ℕ, zero, suc, _+_, _≤_, _<_}
+use mathlib.Core.Path.{_≡_}
+use mathlib.Core.Bool.{Bool, true, false, _&&_}
+use mathlib.Core.List.{List, [], _∷_}
+use lib.Dec.{eqb}
+use lib.ListN.{getD}
+use Rattle.masks.specs.Sets.{has}
+use Rattle.rules.specs.declared.Hold.the-variants as hold
+use Rattle.rules.specs.declared.State.the-variants as state
+use Rattle.rules.specs.declared.Slot.{Slot}
+use Rattle.rules.specs.Sizes.{blocks, blockBytes, rooms, slots, mostBytes, lastNumber}
+use Rattle.rules.specs.Slots.{isUsed, isWaiting, isInFlight, isHard, freeSlot}
+
+-- a table holds its first number, its next number and 64 slots
+pub record Table : Type 0 where
+  pub first : ℕ
+  pub next : ℕ
+  pub slots : List Slot
+
+abbrev pub tableOf : ℕ → ℕ → List Slot → Table
+tableOf first next ss = record { first = first; next = next; slots = ss }
+
+-- slot i of the slots of a table
+abbrev pub slotAt : List Slot → ℕ → Slot
+slotAt ss i = getD ss i freeSlot
+
+-- the slots f i, f (i + 1), .., n of them
+unfoldable pub slotsFrom : (ℕ → Slot) → ℕ → ℕ → List Slot
+slotsFrom f i zero = []
+slotsFrom f i (suc n) = f i ∷ slotsFrom f (suc i) n
+
+-- the 64 slots f 0 to f 63
+abbrev pub slotsBy : (ℕ → Slot) → List Slot
+slotsBy f = slotsFrom f 0 slots
+
+-- the table with other slots, and with another next number
+abbrev pub withSlots : List Slot → Table → Table
+withSlots ss t = record { first = t .first; next = t .next; slots = ss }
+
+abbrev pub withNext : ℕ → Table → Table
+withNext n t = record { first = t .first; next = n; slots = t .slots }
+
+-- slot i is used; it holds a waiting patch
+abbrev pub used : List Slot → ℕ → Bool
+used ss i = isUsed (slotAt ss i .state)
+
+abbrev pub waits : List Slot → ℕ → Bool
+waits ss i = isWaiting (slotAt ss i .state)
+
+-- slot i holds a waiting patch of block b; one in flight; a waiting patch that is hard
+abbrev pub waitsOn : List Slot → ℕ → ℕ → Bool
+waitsOn ss b i = isWaiting (slotAt ss i .state) && eqb (slotAt ss i .block) b
+
+abbrev pub fliesOn : List Slot → ℕ → ℕ → Bool
+fliesOn ss b i = isInFlight (slotAt ss i .state) && eqb (slotAt ss i .block) b
+
+abbrev pub hardOn : List Slot → ℕ → ℕ → Bool
+hardOn ss b i = isHard (slotAt ss i .state) && eqb (slotAt ss i .block) b
+
+-- slot i holds a soft waiting patch with undo room r; no other patch has a room
+abbrev pub HasRoom : List Slot → ℕ → ℕ → Type 0
+HasRoom ss i r = slotAt ss i .state ≡ state.Waiting (hold.Soft r)
+
+-- the table is sound; nothing more is tested, and of a free slot nothing at all
+pub record Sound (t : Table) : Type 0 where
+  -- first is 1 to 1,000,000,000; next is from first to 1,000,000,001
+  pub first-least : 1 ≤ t .first
+  pub first-most : t .first ≤ lastNumber
+  pub next-least : t .first ≤ t .next
+  pub next-most : t .next ≤ lastNumber + 1
+  -- numbers in use are at least first, below next and all different
+  pub number-least : (i : ℕ) → i < slots → used (t .slots) i ≡ true → t .first ≤ slotAt (t .slots) i .number
+  pub number-most : (i : ℕ) → i < slots → used (t .slots) i ≡ true → slotAt (t .slots) i .number < t .next
+  pub numbers-differ : (i j : ℕ) → i < slots → j < slots → used (t .slots) i ≡ true → used (t .slots) j ≡ true → slotAt (t .slots) i .number ≡ slotAt (t .slots) j .number → i ≡ j
+  -- blocks are at most 63
+  pub block-most : (i : ℕ) → i < slots → used (t .slots) i ≡ true → slotAt (t .slots) i .block < blocks
+  -- lengths are 1 to 64 and offset + length is at most 256
+  pub len-least : (i : ℕ) → i < slots → used (t .slots) i ≡ true → 1 ≤ slotAt (t .slots) i .len
+  pub len-most : (i : ℕ) → i < slots → used (t .slots) i ≡ true → slotAt (t .slots) i .len ≤ mostBytes
+  pub ends : (i : ℕ) → i < slots → used (t .slots) i ≡ true → slotAt (t .slots) i .offset + slotAt (t .slots) i .len ≤ blockBytes
+  -- befores are used slots other than the patch's own
+  pub befores-used : (i j : ℕ) → i < slots → j < slots → used (t .slots) i ≡ true → has (slotAt (t .slots) i .befores) j ≡ true → used (t .slots) j ≡ true
+  pub befores-other : (i : ℕ) → i < slots → used (t .slots) i ≡ true → has (slotAt (t .slots) i .befores) i ≡ true → ⊥
+  -- rooms are 0 to 15 and no two patches share one
+  pub room-most : (i r : ℕ) → i < slots → HasRoom (t .slots) i r → r < rooms
+  pub rooms-differ : (i j r : ℕ) → i < slots → j < slots → HasRoom (t .slots) i r → HasRoom (t .slots) j r → i ≡ j
+
+-- the numbers from first up to next - 1 have been issued, and no other
+abbrev pub Issued : Table → ℕ → Type 0
+Issued t n = (t .first ≤ n) × (n < t .next)
+
+-- the patch with number n is in slot i
+abbrev pub InSlot : Table → ℕ → ℕ → Type 0
+InSlot t n i = (i < slots) × (used (t .slots) i ≡ true) × (slotAt (t .slots) i .number ≡ n)
+
+-- an issued number that is in no slot has committed
+abbrev pub Committed : Table → ℕ → Type 0
+Committed t n = Issued t n × ((i : ℕ) → InSlot t n i → ⊥)

@@ -1,0 +1,4 @@
+-- What the proofs of the functions share.
+pub mod Rooms
+pub mod SetSize
+pub mod Tested

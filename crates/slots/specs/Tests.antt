@@ -1,0 +1,51 @@
+-- What the private tests of `is_sound` decide, of one slot and of two. No public promise cites this file: those cite Sound of `rules`.
+use Prim.Native.Nat.{ℕ, _+_, _≤_, _<_}
+use mathlib.Core.Path.{_≡_}
+use mathlib.Core.Bool.{true}
+use mathlib.Core.List.{List}
+use Rattle.masks.specs.Sets.{has}
+use Rattle.rules.specs.declared.Hold.the-variants as hold
+use Rattle.rules.specs.declared.State.{State}
+use Rattle.rules.specs.declared.State.the-variants as state
+use Rattle.rules.specs.declared.Slot.{Slot}
+use Rattle.rules.specs.Sizes.{slots, blocks, blockBytes, rooms, mostBytes}
+use Rattle.rules.specs.Slots.{isUsed}
+use Rattle.rules.specs.Table.{slotAt}
+use Rattle.slots.specs.declared.sound.Room.{Room}
+use Rattle.slots.specs.declared.sound.Room.the-variants as room
+
+-- the undo room of a patch in a state, where it has one
+abbrev pub roomIn : State → Room
+roomIn state.Free = room.Nowhere
+roomIn (state.Waiting hold.Hard) = room.Nowhere
+roomIn (state.Waiting (hold.Soft r)) = room.At r
+roomIn (state.InFlight k) = room.Nowhere
+
+-- number, block and range of a patch are within their bounds
+pub record InRange (first next : ℕ) (s : Slot) : Type 0 where
+  pub number-least : first ≤ s .number
+  pub number-most : s .number < next
+  pub block-most : s .block < blocks
+  pub len-least : 1 ≤ s .len
+  pub len-most : s .len ≤ mostBytes
+  pub ends : s .offset + s .len ≤ blockBytes
+
+-- a patch in slot i is sound by itself, where the slots of the set `used` are in use
+pub record Alone (first next used i : ℕ) (s : Slot) : Type 0 where
+  pub range : InRange first next s
+  pub befores-used : (j : ℕ) → j < slots → has (s .befores) j ≡ true → has used j ≡ true
+  pub befores-other : has (s .befores) i ≡ true → ⊥
+  pub room-most : (r : ℕ) → roomIn (s .state) ≡ room.At r → r < rooms
+
+-- of a free slot nothing is asked
+abbrev pub SoundAlone : ℕ → ℕ → ℕ → ℕ → Slot → Type 0
+SoundAlone first next used i s = isUsed (s .state) ≡ true → Alone first next used i s
+
+-- two slots in use have neither one number nor one room
+pub record Apart (a b : Slot) : Type 0 where
+  pub numbers : isUsed (a .state) ≡ true → isUsed (b .state) ≡ true → a .number ≡ b .number → ⊥
+  pub rooms : (r : ℕ) → roomIn (a .state) ≡ room.At r → roomIn (b .state) ≡ room.At r → ⊥
+
+-- slot i and each below it
+abbrev pub ApartBelow : List Slot → ℕ → Type 0
+ApartBelow ss i = (j : ℕ) → j < i → Apart (slotAt ss i) (slotAt ss j)

@@ -1,0 +1,46 @@
+// Walks over the 64 slots: the set of those of which a word holds, how many there are, and the
+// slot of a number.
+ghost use mathlib.Core.Path.{_≡_};
+ghost use Rattle.masks.specs.Sets.{setOf, howMany};
+ghost use Rattle.rules.specs.Table.{slotAt};
+ghost use Rattle.slots.specs.Words.{says, Found};
+use crate::words::Word;
+use crate::words::is_used;
+use crate::words::says;
+use rules::Slot;
+
+// The set of the slots of which the word holds.
+pub fn set_of(slots: [Slot; 64], word: Word, block: u32) -> u64
+    ensures { λ r. ⌜ r ≡ setOf (λ i. says word block (slotAt slots i)) ⌝ }
+{
+    let mut set: u64 = 0;
+    for i in 0..64 {
+        if says(word, block, slots[i]) {
+            set = masks::with(set, i);
+        }
+    }
+    set
+}
+
+// How many there are: the size of that set.
+pub fn count_of(slots: [Slot; 64], word: Word, block: u32) -> u32
+    ensures { λ r. ⌜ r ≡ howMany (λ i. says word block (slotAt slots i)) 64 ⌝ }
+{
+    u64::count_ones(set_of(slots, word, block))
+}
+
+// The slot in use that has the number; 64 where there is none.
+pub fn find(slots: [Slot; 64], number: u32) -> usize
+    ensures { λ r. ⌜ Found slots number r ⌝ }
+{
+    for i in 0..64 {
+        let s = slots[i];
+        if s.number == number {
+            let u = s.state;
+            if is_used(u) {
+                return i;
+            }
+        }
+    }
+    64
+}
