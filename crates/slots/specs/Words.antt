@@ -1,9 +1,8 @@
 -- The words that a walk over the slots asks, each one of the words of `rules`.
-use Prim.Native.Nat.{ℕ, _<_}
+use Prim.Native.Nat.{ℕ, _≤_, _<_}
 use mathlib.Core.Path.{_≡_}
 use mathlib.Core.Bool.{Bool, true, _&&_}
 use mathlib.Core.List.{List}
-use mathlib.Core.Logic.{_⊎_}
 use lib.Dec.{eqb}
 use Rattle.rules.specs.declared.Slot.{Slot}
 use Rattle.rules.specs.Sizes.{slots}
@@ -26,5 +25,8 @@ Carries ss n i = (used ss i ≡ true) × (slotAt ss i .number ≡ n)
 -- r is a slot that is in use and has the number n, or 64 where there is none
 pub record Found (ss : List Slot) (n r : ℕ) : Type 0 where
   pub there : r < slots → Carries ss n r
-  pub nowhere : slots ≡ r → (i : ℕ) → i < slots → Carries ss n i → ⊥
-  pub most : (r < slots) ⊎ (slots ≡ r)
+  pub nowhere : slots ≤ r → (i : ℕ) → i < slots → Carries ss n i → ⊥
+
+-- the word holds of some slot, on the block
+abbrev pub Some : List Slot → Word → ℕ → Type 0
+Some ss w b = (i : ℕ) × (i < slots) × (says w b (slotAt ss i) ≡ true)

@@ -1,9 +1,10 @@
-// Walks over the 64 slots: the set of those of which a word holds, how many there are, and the
-// slot of a number.
+// Walks over the 64 slots: the set of those of which a word holds, how many there are, whether
+// there is one, and the slot of a number.
 ghost use mathlib.Core.Path.{_≡_};
+ghost use Rattle.masks.specs.Decides.{Decides};
 ghost use Rattle.masks.specs.Sets.{setOf, howMany};
 ghost use Rattle.rules.specs.Table.{slotAt};
-ghost use Rattle.slots.specs.Words.{says, Found};
+ghost use Rattle.slots.specs.Words.{says, Some, Found};
 use crate::words::Word;
 use crate::words::is_used;
 use crate::words::says;
@@ -27,6 +28,17 @@ pub fn count_of(slots: [Slot; 64], word: Word, block: u32) -> u32
     ensures { λ r. ⌜ r ≡ howMany (λ i. says word block (slotAt slots i)) 64 ⌝ }
 {
     u64::count_ones(set_of(slots, word, block))
+}
+
+// Whether the word holds of some slot.
+pub fn any(slots: [Slot; 64], word: Word, block: u32) -> bool
+    ensures { λ r. ⌜ Decides (Some slots word block) r ⌝ }
+{
+    if set_of(slots, word, block) == 0 {
+        false
+    } else {
+        true
+    }
 }
 
 // The slot in use that has the number; 64 where there is none.

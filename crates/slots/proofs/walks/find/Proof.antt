@@ -1,7 +1,7 @@
 -- `slots::walks::find` meets its contract. The loop's invariant: none of the slots passed is in use with the number. Assumes nothing.
 use Prim.Native.Nat.{ℕ, _≤_, _<_, _-_}
 use mathlib.Core.Path.{refl, sym, _∙_}
-use mathlib.Core.Logic.{⊎-elim, inl, inr}
+use mathlib.Core.Logic.{⊎-elim}
 use native.Mathlib.Omega.{arith}
 use borrow.Author.Count.{below-none, below-more}
 use borrow.Author.Needs.{needs}
@@ -34,7 +34,6 @@ returns c =
     record {
       there = λ h. (sym (c .before .is-used .ensures) ∙ c .if2 .taken, c .before .before .if1 .taken);
       nowhere = λ e. absurd (omega arith);
-      most = inl l;
     }
 
 add-i : tie.Need-add-i Inv-loop μ-loop
@@ -54,7 +53,6 @@ returns-2 : tie.Need-returns-2 Inv-loop μ-loop
 returns-2 c = record {
   there = λ h. absurd (omega arith);
   nowhere = λ e k l. c .before .loop .inv .1 k (omega arith);
-  most = inr refl;
 }
 
 pub find-spec : {M : Type 1} → statement M

@@ -1,0 +1,43 @@
+-- A new patch would be hard just where no slot holds the block's waiting patches back, their set taken at once. Assumes nothing.
+use Prim.Native.Nat.{ℕ, _^_, _<_}
+use mathlib.Core.Path.{_≡_, sym, ap, _∙_, subst}
+use mathlib.Core.Bool.{true, not, _&&_}
+use mathlib.Core.List.{List}
+use mathlib.Core.Logic.{⊎-elim}
+use borrow.Author.Tests.{ne-eqb, eq-eqb, not-true}
+use lib.Dec.{eqb}
+use Rattle.masks.specs.Sets.{has, setOf}
+use Rattle.masks.proofs.Decided.{clash, true-or-false, and-true, true-and}
+use Rattle.masks.proofs.Laws.{has-set, has-slot, set-lt}
+use Rattle.rules.specs.declared.Slot.{Slot}
+use Rattle.rules.specs.Sizes.{slots}
+use Rattle.rules.specs.Table.{slotAt, used, waitsOn}
+use Rattle.rules.specs.Create.{holdsBack, WouldBeHard}
+use Rattle.accept.specs.Tests.{HoldsBack}
+
+module _ (ss : List Slot) (b : ℕ) {m : ℕ} (is-waiting : m ≡ setOf (waitsOn ss b)) where
+  waits : (i : ℕ) → i < slots → has m i ≡ waitsOn ss b i
+  waits i l = ap (λ (x : ℕ). has x i) is-waiting ∙ has-set (waitsOn ss b) i l
+
+  waiting-lt : m < 2 ^ 64
+  waiting-lt = subst (λ (x : ℕ). x < 2 ^ 64) (sym is-waiting) (set-lt (waitsOn ss b))
+
+  pub hard-holds-none : WouldBeHard ss b → (k : ℕ) → k < slots → HoldsBack b m (slotAt ss k) → ⊥
+  unfolding WouldBeHard
+  hard-holds-none hard k l h =
+      let i = h .2 .0 in
+      let c = has-slot m i waiting-lt (h .2 .2) in
+      let other : not (eqb (slotAt ss k .block) b) ≡ true = rw (ne-eqb (slotAt ss k .block) b (h .1)) in
+      clash (true-and (true-and (h .0) other) (true-and (h .2 .1) (sym (waits i c) ∙ h .2 .2))) (hard k i l c)
+
+  pub none-holds-hard : ((k : ℕ) → k < slots → HoldsBack b m (slotAt ss k) → ⊥) → WouldBeHard ss b
+  unfolding WouldBeHard
+  none-holds-hard none k i l c =
+      let s = slotAt ss k in
+      ⊎-elim
+      (λ e.
+      let p = and-true _ (has (s .befores) i && waitsOn ss b i) e in
+      let q = and-true (used ss k) _ (p .0) in
+      let r = and-true (has (s .befores) i) _ (p .1) in
+      absurd (none k l (q .0, λ n. clash (eq-eqb (s .block) b n) (not-true _ (q .1)), (i, r .0, waits i c ∙ r .1))))
+      (λ e. e) (true-or-false (holdsBack ss b k i))

@@ -1,0 +1,4 @@
+-- What the proofs of the functions share.
+pub mod Members
+pub mod LowestFound
+pub mod HeldBack

@@ -1,0 +1,11 @@
+-- The lowest number of which something holds, from a walk up from 0 that passed the lower ones. Assumes nothing.
+use Prim.Native.Nat.{ℕ, _≤_, _<_}
+use native.Mathlib.Omega.{arith}
+use Rattle.accept.specs.Asked.{LowestOr}
+
+module _ {n : ℕ} {P : ℕ → Type 0} where
+  pub found-lowest : {r : ℕ} → r < n → P r → ((k : ℕ) → k < r → P k → ⊥) → LowestOr n P r
+  found-lowest l p passed = record { there = λ h. record { within = l; holds = p; least = passed }; nowhere = λ h. absurd (omega arith) }
+
+  pub nowhere-lowest : {i : ℕ} → n ≤ i → ((k : ℕ) → k < i → P k → ⊥) → LowestOr n P n
+  nowhere-lowest l passed = record { there = λ h. absurd (omega arith); nowhere = λ h k b. passed k (omega arith) }

@@ -1,0 +1,74 @@
+-- `accept::hold::would_be_hard` meets its contract. The loop's invariant: none of the slots passed holds the block's waiting patches back.
+-- Assumes nothing.
+use Prim.Native.Nat.{ℕ, _≤_, _<_, _-_}
+use native.Mathlib.Omega.{arith}
+use borrow.Author.Count.{below-none, below-more}
+use Rattle.masks.proofs.Decided.{yes-of, no-of}
+use Rattle.rules.specs.Table.{slotAt}
+use Rattle.accept.specs.Tests.{HoldsBack}
+use Rattle.accept.proofs.HeldBack.{hard-holds-none, none-holds-hard}
+use borrow.Author.Needs.{needs}
+use Rattle.accept.proofs.hold.would_be_hard.Statement.{statement}
+use Rattle.accept.proofs.hold.would_be_hard.Tie as tie
+
+abbrev Inv-loop : tie.InvT-loop
+Inv-loop block slots waiting k₀ k = (k ≤ 64) × ((j : ℕ) → j < k → HoldsBack block waiting (slotAt slots j) → ⊥)
+
+abbrev μ-loop : tie.MeasureT-loop
+μ-loop block slots waiting k₀ k = 64 - k
+
+set-of-requires : tie.Need-set-of-requires Inv-loop μ-loop
+set-of-requires c κs = search needs
+
+loop-holds : tie.Need-loop-holds Inv-loop μ-loop
+loop-holds c = (omega arith, below-none _)
+
+mul-holds-back : tie.Need-mul-holds-back Inv-loop μ-loop
+mul-holds-back c = search needs
+
+array-copy-out-holds-back : tie.Need-array-copy-out-holds-back Inv-loop μ-loop
+array-copy-out-holds-back c = search needs
+
+holds-back-requires : tie.Need-holds-back-requires Inv-loop μ-loop
+holds-back-requires c κs = search needs
+
+returns : tie.Need-returns Inv-loop μ-loop
+returns c =
+    let at = c .before .before .before in
+    let a = at .before .before .before .args in
+    λ hard. hard-holds-none (a .t1) (a .block) (at .before .before .set-of .ensures) hard _ (at .loop-test .taken)
+    (yes-of (c .before .holds-back .result) (c .before .holds-back .ensures) (c .if1 .taken))
+
+add-k : tie.Need-add-k Inv-loop μ-loop
+add-k c = search needs
+
+loop-less : tie.Need-loop-less Inv-loop μ-loop
+loop-less c = search needs
+
+loop-again : tie.Need-loop-again Inv-loop μ-loop
+loop-again c = (
+  omega arith,
+  below-more _ _ (c .before .before .before .before .loop .inv .1) (no-of (c .before .holds-back .result) (c .before .holds-back .ensures) (c .if1 .left)),
+)
+
+returns-2 : tie.Need-returns-2 Inv-loop μ-loop
+returns-2 c =
+    let at = c .before .before in
+    none-holds-hard (at .before .args .t1) (at .before .args .block) (at .set-of .ensures) (λ k l. c .before .loop .inv .1 k (omega arith))
+
+pub would-be-hard-spec : {M : Type 1} → statement M
+would-be-hard-spec =
+    tie.close
+    (tie.spec
+    Inv-loop
+    μ-loop
+    set-of-requires
+    loop-holds
+    mul-holds-back
+    array-copy-out-holds-back
+    holds-back-requires
+    returns
+    add-k
+    loop-less
+    loop-again
+    returns-2)

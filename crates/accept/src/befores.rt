@@ -1,0 +1,52 @@
+// The befores of a new patch: the slots of the named numbers, and those whose bytes it shares.
+ghost use mathlib.Core.Path.{_≡_};
+ghost use Prim.Native.Nat.{_<_, _^_};
+ghost use Rattle.rules.specs.Create.{shares, befores};
+ghost use Rattle.accept.specs.Tests.{follows};
+use crate::named::is_in;
+use rules::Slot;
+use slots::words::is_used;
+
+// Whether two ranges share a byte: the later start is before the earlier end. The sums are of
+// 64 bits, so that none of them wraps whatever the offset; no slice is as long as `m` may be.
+fn shares(o: u32, l: u32, p: u32, m: usize) -> bool
+    requires { ⌜ m < 2 ^ 63 ⌝ }
+    ensures { λ r. ⌜ r ≡ shares o l p m ⌝ }
+{
+    let a = o as u64;
+    let b = p as u64;
+    let a_end = a + (l as u64);
+    let b_end = b + (m as u64);
+    let late = if a < b { b } else { a };
+    let early = if a_end < b_end { a_end } else { b_end };
+    late < early
+}
+
+// Whether the new patch must follow the patch of slot s.
+fn follows(s: Slot, block: u32, offset: u32, bytes: &[u8], numbers: &[u32]) -> bool
+    ensures { λ r. ⌜ r ≡ follows s (record { block = block; offset = offset; bytes = now (bytes .entry); named = now (numbers .entry) }) ⌝ }
+{
+    let u = s.state;
+    if !is_used(u) {
+        return false;
+    }
+    if is_in(s.number, numbers) {
+        return true;
+    }
+    if s.block != block {
+        return false;
+    }
+    shares(s.offset, s.len, offset, bytes.len())
+}
+
+pub fn befores(slots: [Slot; 64], block: u32, offset: u32, bytes: &[u8], numbers: &[u32]) -> u64
+    ensures { λ r. ⌜ r ≡ befores slots (record { block = block; offset = offset; bytes = now (bytes .entry); named = now (numbers .entry) }) ⌝ }
+{
+    let mut set: u64 = 0;
+    for i in 0..64 {
+        if follows(slots[i], block, offset, bytes, numbers) {
+            set = masks::with(set, i);
+        }
+    }
+    set
+}

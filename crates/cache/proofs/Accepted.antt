@@ -1,0 +1,131 @@
+-- Create: each answer from the facts that the code has found where it returns it.
+use Prim.Native.Nat.{ℕ, _+_, _*_, _≤_, _<_}
+use mathlib.Core.Path.{_≡_, refl, sym, ap, ap₂, subst₃}
+use mathlib.Core.List.{List, [], _∷_}
+use mathlib.Core.Logic.{_⊎_, inl, inr, ⊎-elim}
+use native.Mathlib.Nat.{mul-comm}
+use native.Mathlib.Omega.{arith}
+use lib.ListN.{length}
+use Rattle.spans.specs.Spans.{splice, part}
+use Rattle.spans.proofs.Laws.{part-whole}
+use Rattle.rules.specs.declared.Hold.{Hold}
+use Rattle.rules.specs.declared.Hold.the-variants as hold
+use Rattle.rules.specs.declared.CreateAnswer.the-variants as create
+use Rattle.rules.specs.declared.Slot.{Slot}
+use Rattle.rules.specs.Sizes.{roomStart, blocks, blockBytes, imageBytes, undoBytes, slots, mostBytes, mostNamed, lastNumber}
+use Rattle.rules.specs.Table.{Table, Sound}
+use Rattle.rules.specs.Create.{Change, Lowest, FreeSlot, HoldOf, accepted, changed, kept}
+use Rattle.rules.specs.Refusals.{case, First, WrongSize, WrongLength, NamesUnissued, NoSlot, NoRoom, createCases}
+use Rattle.rules.specs.Calls.{Creates, createRefused, createGranted}
+use Rattle.rules.proofs.Cases.{holds, passes, none-holds}
+use Rattle.rules.proofs.Outcomes.{refuses, grants}
+use Rattle.cache.specs.Judged.{Judged, CreateReady, keptAt}
+use Rattle.cache.proofs.Sent.{judged}
+
+module _ (t : Table) (image undo : List ℕ) (c : Change) where
+  abbrev Create-judged : ℕ → Type 0
+  Create-judged = Judged (createCases t image undo c) (CreateReady t image undo c)
+
+  pub create-wrong-size : (WrongSize imageBytes image ⊎ WrongSize undoBytes undo) → Create-judged 1
+  create-wrong-size w = judged 1 (λ e. omega arith) (holds w)
+
+  module _ (i : length image ≡ imageBytes) (u : length undo ≡ undoBytes) where
+    sizes : (WrongSize imageBytes image ⊎ WrongSize undoBytes undo) → ⊥
+    sizes = ⊎-elim (λ n. n i) (λ n. n u)
+
+    pub create-unsound : (Sound t → ⊥) → Create-judged 2
+    create-unsound n = judged 2 (λ e. omega arith) (passes sizes (holds n))
+
+    module _ (s : Sound t) where
+      pub create-no-block : blocks ≤ c .block → Create-judged 3
+      create-no-block l = judged 3 (λ e. omega arith) (passes sizes (passes (λ n. n s) (holds l)))
+
+      module _ (b : c .block < blocks) where
+        pub create-wrong-length : WrongLength c → Create-judged 4
+        create-wrong-length w = judged 4 (λ e. omega arith) (passes sizes (passes (λ n. n s) (passes (λ m. omega arith) (holds w))))
+
+        module _ (least : length (c .bytes) ≡ 0 → ⊥) (most : length (c .bytes) ≤ mostBytes) where
+          lengths : WrongLength c → ⊥
+          lengths = ⊎-elim least (λ l. omega arith)
+
+          pub create-past-end : blockBytes < c .offset + length (c .bytes) → Create-judged 5
+          create-past-end l = judged 5 (λ e. omega arith) (passes sizes (passes (λ n. n s) (passes (λ m. omega arith) (passes lengths (holds l)))))
+
+          module _ (ends : c .offset + length (c .bytes) ≤ blockBytes) where
+            pub create-many-named : mostNamed < length (c .named) → Create-judged 6
+            create-many-named l = judged 6 (λ e. omega arith) (passes sizes (passes (λ n. n s) (passes (λ m. omega arith) (passes lengths (passes (λ m. omega arith) (holds l))))))
+
+            module _ (few : length (c .named) ≤ mostNamed) where
+              pub create-unissued : NamesUnissued t c → Create-judged 7
+              create-unissued n =
+                  judged 7 (λ e. omega arith)
+                  (passes sizes (passes (λ n. n s) (passes (λ m. omega arith) (passes lengths (passes (λ m. omega arith) (passes (λ m. omega arith) (holds n)))))))
+
+              module _ (issued : NamesUnissued t c → ⊥) where
+                pub create-no-number : t .next ≡ lastNumber + 1 → Create-judged 8
+                create-no-number n =
+                    judged 8 (λ e. omega arith)
+                    (passes sizes (passes (λ n. n s) (passes (λ m. omega arith) (passes lengths (passes (λ m. omega arith) (passes (λ m. omega arith) (passes issued (holds n))))))))
+
+                pub create-ready : (t .next ≡ lastNumber + 1 → ⊥) → Create-judged 0
+                create-ready n = record {
+                  refused = λ d. absurd (d refl);
+                  ready = λ z. record {
+                    image-whole = i;
+                    undo-whole = u;
+                    sound = s;
+                    is-block = b;
+                    len-least = omega (arith, least);
+                    len-most = most;
+                    ends = ends;
+                    few-named = few;
+                    issued = issued;
+                    last = omega (arith, n, s .next-most);
+                  };
+                }
+
+  pub create-refused : (k : ℕ) → (k ≡ 0 → ⊥) → Create-judged k → Creates t image undo c (createRefused t image undo k)
+  create-refused k d j = refuses k (j .refused d) refl d
+
+  module _ (r : CreateReady t image undo c) where
+    -- past the early refusals only 9 and 10 are left
+    late : {k : ℕ} → First (case 9 (NoSlot (t .slots)) ∷ case 10 (NoRoom (t .slots) c) ∷ []) k → First (createCases t image undo c) k
+    late f =
+        passes (sizes (r .image-whole) (r .undo-whole))
+        (passes (λ n. n (r .sound))
+        (passes (λ m. omega (arith, r .is-block))
+        (passes (⊎-elim (λ e. omega (arith, r .len-least)) (λ l. omega (arith, r .len-most)))
+        (passes (λ m. omega (arith, r .ends))
+        (passes (λ m. omega (arith, r .few-named))
+        (passes (r .issued)
+        (passes (λ m. omega (arith, r .last)) f)))))))
+
+    pub create-no-slot : NoSlot (t .slots) → Creates t image undo c (createRefused t image undo 9)
+    create-no-slot n = refuses 9 (late (holds n)) refl (λ e. omega arith)
+
+    module _ (j : ℕ) (low : Lowest slots (FreeSlot (t .slots)) j) where
+      pub create-no-room : NoRoom (t .slots) c → Creates t image undo c (createRefused t image undo 10)
+      create-no-room n = refuses 10 (late (passes (λ m. m j (low .within) (low .holds)) (holds n))) refl (λ e. omega arith)
+
+      room-for : (h : Hold) → HoldOf (t .slots) (c .block) h → NoRoom (t .slots) c → ⊥
+      room-for h (HoldOf.hard w) n = n .0 w
+      room-for h (HoldOf.soft {r = q} w free) n = n .1 q (free .within) (free .holds)
+
+      -- the table and the buffers are what the code made
+      pub create-granted : (h : Hold) → HoldOf (t .slots) (c .block) h → (t′ : Table) (image′ undo′ : List ℕ) → t′ ≡ accepted t c j h → image′ ≡ changed image c → undo′ ≡ kept undo image c h
+          → Creates t image undo c (record { answer = create.Granted (t .next) h; table = t′; image = image′; undo = undo′ })
+      create-granted h held t′ image′ undo′ p q s =
+          subst₃ (λ (x : Table) (y z : List ℕ). Creates t image undo c (record { answer = create.Granted (t .next) h; table = x; image = y; undo = z })) (sym p) (sym q) (sym s)
+          (grants (createGranted t image undo c j h) (late (passes (λ m. m j (low .within) (low .holds)) (passes (room-for h held) none-holds))) refl
+          (record { slot = j; hold = h; lowest = low; hard-or-soft = held; whole = refl }))
+
+-- the code's place of a change in the image, and what is laid there and kept, are those of the rules
+pub image-made : (image : List ℕ) (c : Change) → splice image (c .block * 256 + c .offset) (part (c .bytes) 0 (length (c .bytes))) ≡ changed image c
+unfolding changed
+image-made image c = ap₂ (splice image) (ap (λ (x : ℕ). x + c .offset) (mul-comm (c .block) 256)) (part-whole (c .bytes))
+
+pub undo-made : (undo image : List ℕ) (c : Change) (h : Hold) → keptAt undo image (c .block * 256 + c .offset) (length (c .bytes)) h ≡ kept undo image c h
+unfolding kept
+undo-made undo image c hold.Hard = refl
+undo-made undo image c (hold.Soft r) =
+    ap (λ (x : ℕ). splice undo (roomStart r) (part image x (length (c .bytes)))) (ap (λ (x : ℕ). x + c .offset) (mul-comm (c .block) 256))

@@ -1,0 +1,4 @@
+-- How each answer of a call is shown from plain facts; the functions' proofs cite these.
+pub mod Looks
+pub mod Sent
+pub mod Accepted

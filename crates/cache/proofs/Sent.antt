@@ -1,0 +1,85 @@
+-- Write and complete: each answer from the facts that the code has found where it returns it.
+use Prim.Native.Nat.{ℕ, _≤_, _<_}
+use mathlib.Core.Path.{_≡_, refl, sym, subst₂}
+use mathlib.Core.Bool.{true, false}
+use mathlib.Core.List.{List, [], _∷_}
+use mathlib.Core.Logic.{_⊎_, inl, inr, ⊎-elim}
+use native.Mathlib.Omega.{arith}
+use lib.ListN.{length}
+use Rattle.masks.specs.Sets.{has}
+use Rattle.masks.proofs.Laws.{has-none, no-member}
+use Rattle.masks.proofs.Decided.{clash, true-or-false}
+use Rattle.rules.specs.Sizes.{blocks, blockBytes, imageBytes, undoBytes}
+use Rattle.rules.specs.Table.{Table, Sound}
+use Rattle.rules.specs.declared.WriteAnswer.the-variants as write
+use Rattle.rules.specs.Write.{MayGo, Largest, sent, handedOut}
+use Rattle.rules.specs.Refusals.{Case, case, First, WrongSize, Flies, Waits, OnlyEmpty, writeCases}
+use Rattle.rules.specs.Calls.{Writes, writeRefused, writeGranted, Completes, completeRefused, completeGranted}
+use Rattle.rules.proofs.Cases.{holds, passes, none-holds}
+use Rattle.rules.proofs.Outcomes.{refuses, grants}
+use Rattle.cache.specs.Judged.{Judged, WriteReady}
+
+module _ (t : Table) (b : ℕ) where
+  pub complete-unsound : (Sound t → ⊥) → Completes t b (completeRefused t 2)
+  complete-unsound u = refuses 2 (holds u) refl (λ e. omega arith)
+
+  pub complete-no-block : Sound t → blocks ≤ b → Completes t b (completeRefused t 3)
+  complete-no-block s l = refuses 3 (passes (λ u. u s) (holds l)) refl (λ e. omega arith)
+
+  pub complete-none : Sound t → b < blocks → (Flies (t .slots) b → ⊥) → Completes t b (completeRefused t 14)
+  complete-none s l n = refuses 14 (passes (λ u. u s) (passes (λ m. omega arith) (holds n))) refl (λ e. omega arith)
+
+  pub complete-granted : Sound t → b < blocks → Flies (t .slots) b → Completes t b (completeGranted t b)
+  complete-granted s l f = grants (completeGranted t b) (passes (λ u. u s) (passes (λ m. omega arith) (passes (λ n. n f) none-holds))) refl refl
+
+-- a first case that holds, and nothing more to know
+pub judged : {cases : List Case} {Ready : Type 0} (k : ℕ) → (k ≡ 0 → ⊥) → First cases k → Judged cases Ready k
+judged k d f = record { refused = λ e. f; ready = λ z. absurd (d z) }
+
+module _ (t : Table) (image undo block : List ℕ) (b : ℕ) where
+  abbrev Write-judged : ℕ → Type 0
+  Write-judged = Judged (writeCases t image undo block b) (WriteReady t image undo block b)
+
+  pub write-wrong-size : (WrongSize imageBytes image ⊎ (WrongSize undoBytes undo ⊎ WrongSize blockBytes block)) → Write-judged 1
+  write-wrong-size w = judged 1 (λ e. omega arith) (holds w)
+
+  module _ (i : length image ≡ imageBytes) (u : length undo ≡ undoBytes) (w : length block ≡ blockBytes) where
+    sizes : (WrongSize imageBytes image ⊎ (WrongSize undoBytes undo ⊎ WrongSize blockBytes block)) → ⊥
+    sizes = ⊎-elim (λ n. n i) (⊎-elim (λ n. n u) (λ n. n w))
+
+    pub write-unsound : (Sound t → ⊥) → Write-judged 2
+    write-unsound n = judged 2 (λ e. omega arith) (passes sizes (holds n))
+
+    pub write-no-block : Sound t → blocks ≤ b → Write-judged 3
+    write-no-block s l = judged 3 (λ e. omega arith) (passes sizes (passes (λ n. n s) (holds l)))
+
+    pub write-flies : Sound t → b < blocks → Flies (t .slots) b → Write-judged 11
+    write-flies s l f = judged 11 (λ e. omega arith) (passes sizes (passes (λ n. n s) (passes (λ m. omega arith) (holds f))))
+
+    pub write-none-waits : Sound t → b < blocks → (Flies (t .slots) b → ⊥) → (Waits (t .slots) b → ⊥) → Write-judged 12
+    write-none-waits s l f n = judged 12 (λ e. omega arith) (passes sizes (passes (λ n. n s) (passes (λ m. omega arith) (passes f (holds n)))))
+
+  pub write-refused : (k : ℕ) → (k ≡ 0 → ⊥) → Write-judged k → Writes t image undo block b (writeRefused t image undo block k)
+  write-refused k d j = refuses k (j .refused d) refl d
+
+  module _ (r : WriteReady t image undo block b) where
+    -- past the early refusals only 13 is left
+    late : {k : ℕ} → First (case 13 (OnlyEmpty (t .slots) b) ∷ []) k → First (writeCases t image undo block b) k
+    late f =
+        passes (sizes (r .image-whole) (r .undo-whole) (r .block-whole))
+        (passes (λ n. n (r .sound)) (passes (λ m. omega (arith, r .is-block)) (passes (r .none-flies) (passes (λ n. n (r .some-waits)) f))))
+
+    pub write-only-empty : Largest (t .slots) b 0 → Writes t image undo block b (writeRefused t image undo block 13)
+    write-only-empty g =
+        refuses 13 (late (holds (r .some-waits, λ s m. no-member s (m .set) (λ i l. never s i m (true-or-false (has s i)))))) refl (λ e. omega arith)
+      where
+        never : (s i : ℕ) → MayGo (t .slots) b s → (has s i ≡ true) ⊎ (has s i ≡ false) → has s i ≡ false
+        never s i m (inl h) = absurd (clash (g .most s m i h) (has-none i))
+        never s i m (inr h) = h
+
+    -- the table and the block are what the code made
+    pub write-granted : (s : ℕ) → (s ≡ 0 → ⊥) → Largest (t .slots) b s → (t′ : Table) (block′ : List ℕ) → t′ ≡ sent t s → block′ ≡ handedOut t b s image undo
+        → Writes t image undo block b (record { answer = write.Granted s; table = t′; image = image; undo = undo; block = block′ })
+    write-granted s d g t′ block′ p q =
+        subst₂ (λ (x : Table) (y : List ℕ). Writes t image undo block b (record { answer = write.Granted s; table = x; image = image; undo = undo; block = y })) (sym p) (sym q)
+        (grants (writeGranted t image undo b s) (late (passes (λ e. d (e .1 s (g .goes))) none-holds)) refl (record { set = s; largest = g; whole = refl }))

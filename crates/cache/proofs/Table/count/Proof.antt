@@ -1,0 +1,42 @@
+-- `Table::count` meets its contract. Assumes nothing.
+use mathlib.Core.Path.{sym, ap, subst}
+use borrow.Author.Needs.{needs}
+use Prim.Native.Nat.{ℕ}
+use native.Mathlib.Omega.{arith}
+use Rattle.masks.proofs.Decided.{yes-not, no-not}
+use Rattle.rules.specs.declared.CountAnswer.the-variants as count
+use Rattle.rules.specs.Table.{Sound}
+use Rattle.rules.specs.Calls.{Counts}
+use Rattle.cache.specs.Seen.{seen}
+use Rattle.cache.proofs.Looks.{count-unsound, count-no-block, count-granted}
+use Rattle.cache.proofs.Table.count.Statement.{statement}
+use Rattle.cache.proofs.Table.count.Tie as tie
+
+is-sound-requires : tie.Need-is-sound-requires
+is-sound-requires c κs = search needs
+
+returns : tie.Need-returns
+returns c =
+    let a = c .before .before .before .args in
+    count-unsound (seen (a .self)) (a .block) (no-not (c .before .is-sound .result) (c .before .is-sound .ensures) (c .if1 .taken))
+
+-- where the table has been found sound
+sound-here : (c : tie.Else1) → Sound (seen (c .before .before .before .args .self))
+sound-here c = yes-not (c .before .is-sound .result) (c .before .is-sound .ensures) (c .if1 .left)
+
+returns-2 : tie.Need-returns-2
+returns-2 c =
+    let a = c .before .before .before .before .args in
+    count-no-block (seen (a .self)) (a .block) (sound-here (c .before)) (c .if2 .taken)
+
+count-of-requires : tie.Need-count-of-requires
+count-of-requires c κs = search needs
+
+returns-3 : tie.Need-returns-3
+returns-3 c =
+    let a = c .before .before .before .before .before .args in
+    subst (λ (n : ℕ). Counts (seen (a .self)) (a .block) (count.Granted n)) (sym (c .count-of .ensures))
+    (count-granted (seen (a .self)) (a .block) (sound-here (c .before .before)) (omega (arith, c .before .if2 .left)))
+
+pub count-spec : {M : Type 1} → statement M
+count-spec = tie.close (tie.spec is-sound-requires returns returns-2 count-of-requires returns-3)

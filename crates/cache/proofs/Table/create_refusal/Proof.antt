@@ -1,0 +1,133 @@
+-- `Table::create_refusal` meets its contract: the refusals 1 to 8, in their order. Assumes nothing.
+use mathlib.Core.Logic.{inl, inr}
+use native.Mathlib.Omega.{arith}
+use borrow.Author.Needs.{needs}
+use Rattle.masks.proofs.Decided.{yes-of, no-of, yes-not, no-not}
+use Rattle.rules.specs.Table.{Sound}
+use Rattle.cache.specs.Seen.{seen}
+use Rattle.cache.proofs.Accepted.{create-wrong-size, create-unsound, create-no-block, create-wrong-length, create-past-end, create-many-named, create-unissued, create-no-number, create-ready}
+use Rattle.cache.proofs.Table.create_refusal.Statement.{statement}
+use Rattle.cache.proofs.Table.create_refusal.Tie as tie
+
+returns : tie.Need-returns
+returns c = create-wrong-size _ _ _ _ (inl (c .if1 .taken))
+
+returns-2 : tie.Need-returns-2
+returns-2 c = create-wrong-size _ _ _ _ (inr (c .if2 .taken))
+
+is-sound-requires : tie.Need-is-sound-requires
+is-sound-requires c κs = search needs
+
+returns-3 : tie.Need-returns-3
+returns-3 c =
+    let e2 = c .before .before .before in
+    create-unsound _ _ _ _ (e2 .before .if1 .left) (e2 .if2 .left) (no-not (c .before .is-sound .result) (c .before .is-sound .ensures) (c .if3 .taken))
+
+-- where the table has been found sound
+sound-here : (c : tie.Else3) → Sound (seen (c .before .before .before .before .before .before .before .before .before .args .self))
+sound-here c = yes-not (c .before .is-sound .result) (c .before .is-sound .ensures) (c .if3 .left)
+
+returns-4 : tie.Need-returns-4
+returns-4 c =
+    let e3 = c .before in
+    let e2 = e3 .before .before .before in
+    create-no-block _ _ _ _ (e2 .before .if1 .left) (e2 .if2 .left) (sound-here e3) (c .if4 .taken)
+
+returns-5 : tie.Need-returns-5
+returns-5 c =
+    let e4 = c .before in
+    let e3 = e4 .before in
+    let e2 = e3 .before .before .before in
+    create-wrong-length _ _ _ _ (e2 .before .if1 .left) (e2 .if2 .left) (sound-here e3) (omega (arith, e4 .if4 .left)) (inl (c .if5 .taken))
+
+returns-6 : tie.Need-returns-6
+returns-6 c =
+    let e5 = c .before in
+    let e4 = e5 .before in
+    let e3 = e4 .before in
+    let e2 = e3 .before .before .before in
+    create-wrong-length _ _ _ _ (e2 .before .if1 .left) (e2 .if2 .left) (sound-here e3) (omega (arith, e4 .if4 .left)) (inr (c .if6 .taken))
+
+sub-if7 : tie.Need-sub-if7
+sub-if7 c = search needs
+
+returns-7 : tie.Need-returns-7
+returns-7 c =
+    let e6 = c .before in
+    let e5 = e6 .before in
+    let e4 = e5 .before in
+    let e3 = e4 .before in
+    let e2 = e3 .before .before .before in
+    create-past-end _ _ _ _ (e2 .before .if1 .left) (e2 .if2 .left) (sound-here e3) (omega (arith, e4 .if4 .left)) (e5 .if5 .left) (e6 .if6 .left)
+    (omega (arith, c .if7 .taken, e6 .if6 .left))
+
+returns-8 : tie.Need-returns-8
+returns-8 c =
+    let e7 = c .before in
+    let e6 = e7 .before in
+    let e5 = e6 .before in
+    let e4 = e5 .before in
+    let e3 = e4 .before in
+    let e2 = e3 .before .before .before in
+    create-many-named _ _ _ _ (e2 .before .if1 .left) (e2 .if2 .left) (sound-here e3) (omega (arith, e4 .if4 .left)) (e5 .if5 .left) (e6 .if6 .left)
+    (omega (arith, e7 .if7 .left, e6 .if6 .left)) (c .if8 .taken)
+
+unissued-requires : tie.Need-unissued-requires
+unissued-requires c κs = search needs
+
+returns-9 : tie.Need-returns-9
+returns-9 c =
+    let e8 = c .before .before in
+    let e7 = e8 .before in
+    let e6 = e7 .before in
+    let e5 = e6 .before in
+    let e4 = e5 .before in
+    let e3 = e4 .before in
+    let e2 = e3 .before .before .before in
+    create-unissued _ _ _ _ (e2 .before .if1 .left) (e2 .if2 .left) (sound-here e3) (omega (arith, e4 .if4 .left)) (e5 .if5 .left) (e6 .if6 .left)
+    (omega (arith, e7 .if7 .left, e6 .if6 .left)) (e8 .if8 .left) (yes-of (c .before .unissued .result) (c .before .unissued .ensures) (c .if9 .taken))
+
+returns-10 : tie.Need-returns-10
+returns-10 c =
+    let e9 = c .before .before in
+    let e8 = e9 .before .before in
+    let e7 = e8 .before in
+    let e6 = e7 .before in
+    let e5 = e6 .before in
+    let e4 = e5 .before in
+    let e3 = e4 .before in
+    let e2 = e3 .before .before .before in
+    create-no-number _ _ _ _ (e2 .before .if1 .left) (e2 .if2 .left) (sound-here e3) (omega (arith, e4 .if4 .left)) (e5 .if5 .left) (e6 .if6 .left)
+    (omega (arith, e7 .if7 .left, e6 .if6 .left)) (e8 .if8 .left) (no-of (e9 .before .unissued .result) (e9 .before .unissued .ensures) (e9 .if9 .left)) (c .if10 .taken)
+
+returns-11 : tie.Need-returns-11
+returns-11 c =
+    let e9 = c .before .before in
+    let e8 = e9 .before .before in
+    let e7 = e8 .before in
+    let e6 = e7 .before in
+    let e5 = e6 .before in
+    let e4 = e5 .before in
+    let e3 = e4 .before in
+    let e2 = e3 .before .before .before in
+    create-ready _ _ _ _ (e2 .before .if1 .left) (e2 .if2 .left) (sound-here e3) (omega (arith, e4 .if4 .left)) (e5 .if5 .left) (e6 .if6 .left)
+    (omega (arith, e7 .if7 .left, e6 .if6 .left)) (e8 .if8 .left) (no-of (e9 .before .unissued .result) (e9 .before .unissued .ensures) (e9 .if9 .left)) (c .if10 .left)
+
+pub create-refusal-spec : {M : Type 1} → statement M
+create-refusal-spec =
+    tie.close
+    (tie.spec
+    returns
+    returns-2
+    is-sound-requires
+    returns-3
+    returns-4
+    returns-5
+    returns-6
+    sub-if7
+    returns-7
+    returns-8
+    unissued-requires
+    returns-9
+    returns-10
+    returns-11)

@@ -1,0 +1,26 @@
+-- `Table::patch` meets its contract. Assumes nothing.
+use Prim.Native.Nat.{ℕ}
+use mathlib.Core.Path.{_≡_, ap}
+use borrow.Author.Needs.{needs}
+use denote.Ref.{now}
+use Rattle.rules.specs.Slots.{withBefores}
+use Rattle.rules.specs.Create.{Change, patch}
+use Rattle.cache.specs.Seen.{seen}
+use Rattle.cache.proofs.Table.patch.Statement.{statement}
+use Rattle.cache.proofs.Table.patch.Tie as tie
+
+cast-t10 : tie.Need-cast-t10
+cast-t10 c = search needs
+
+befores-requires : tie.Need-befores-requires
+befores-requires c κs = search needs
+
+returns : tie.Need-returns
+unfolding patch
+returns c =
+    let a = c .before .before .before .before .args in
+    let d : Change = record { block = a .block; offset = a .offset; bytes = now (a .bytes); named = now (a .named) } in
+    ap (λ (m : ℕ). withBefores m (patch (seen (a .self)) d (a .hold))) (c .befores .ensures)
+
+pub patch-spec : {M : Type 1} → statement M
+patch-spec = tie.close (tie.spec cast-t10 befores-requires returns)

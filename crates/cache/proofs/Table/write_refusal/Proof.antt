@@ -1,0 +1,95 @@
+-- `Table::write_refusal` meets its contract: the refusals 1 to 12, in their order. Assumes nothing.
+use Prim.Native.Nat.{_<_}
+use mathlib.Core.Logic.{inl, inr}
+use mathlib.Core.Path.{refl}
+use native.Mathlib.Omega.{arith}
+use borrow.Author.Needs.{needs}
+use lib.ListN.{length}
+use Rattle.masks.proofs.Decided.{yes-of, no-of, yes-not, no-not}
+use Rattle.rules.specs.Sizes.{blocks}
+use Rattle.rules.specs.Table.{Sound}
+use Rattle.cache.specs.Seen.{seen}
+use Rattle.cache.proofs.Sent.{write-wrong-size, write-unsound, write-no-block, write-flies, write-none-waits}
+use Rattle.cache.proofs.Table.write_refusal.Statement.{statement}
+use Rattle.cache.proofs.Table.write_refusal.Tie as tie
+
+returns : tie.Need-returns
+returns c = write-wrong-size _ _ _ _ _ (inl (c .if1 .taken))
+
+returns-2 : tie.Need-returns-2
+returns-2 c = write-wrong-size _ _ _ _ _ (inr (inl (c .if2 .taken)))
+
+returns-3 : tie.Need-returns-3
+returns-3 c = write-wrong-size _ _ _ _ _ (inr (inr (c .if3 .taken)))
+
+is-sound-requires : tie.Need-is-sound-requires
+is-sound-requires c κs = search needs
+
+returns-4 : tie.Need-returns-4
+returns-4 c =
+    let e = c .before .before .before in
+    write-unsound _ _ _ _ _ (e .before .before .if1 .left) (e .before .if2 .left) (e .if3 .left) (no-not (c .before .is-sound .result) (c .before .is-sound .ensures) (c .if4 .taken))
+
+-- where the table has been found sound
+sound-here : (c : tie.Else4) → Sound (seen (c .before .before .before .before .before .before .before .before .before .args .self))
+sound-here c = yes-not (c .before .is-sound .result) (c .before .is-sound .ensures) (c .if4 .left)
+
+returns-5 : tie.Need-returns-5
+returns-5 c =
+    let e = c .before .before .before .before in
+    write-no-block _ _ _ _ _ (e .before .before .if1 .left) (e .before .if2 .left) (e .if3 .left) (sound-here (c .before)) (c .if5 .taken)
+
+any-requires : tie.Need-any-requires
+any-requires c κs = search needs
+
+returns-6 : tie.Need-returns-6
+returns-6 c =
+    let f = c .before .before in
+    let e = f .before .before .before .before in
+    write-flies _ _ _ _ _ (e .before .before .if1 .left) (e .before .if2 .left) (e .if3 .left) (sound-here (f .before)) (omega (arith, f .if5 .left)) (yes-of (c .before .any .result) (c .before .any .ensures) (c .if6 .taken))
+
+any-requires-2 : tie.Need-any-requires-2
+any-requires-2 c κs = search needs
+
+returns-7 : tie.Need-returns-7
+returns-7 c =
+    let g = c .before .before in
+    let f = g .before .before in
+    let e = f .before .before .before .before in
+    write-none-waits _ _ _ _ _ (e .before .before .if1 .left) (e .before .if2 .left) (e .if3 .left) (sound-here (f .before)) (omega (arith, f .if5 .left))
+    (no-of (g .before .any .result) (g .before .any .ensures) (g .if6 .left))
+    (no-not (c .before .any2 .result) (c .before .any2 .ensures) (c .if7 .taken))
+
+returns-8 : tie.Need-returns-8
+returns-8 c =
+    let g = c .before .before in
+    let f = g .before .before in
+    let e = f .before .before .before .before in
+    record {
+      refused = λ d. absurd (d refl);
+      ready = λ z. record {
+        image-whole = e .before .before .if1 .left;
+        undo-whole = e .before .if2 .left;
+        block-whole = e .if3 .left;
+        sound = sound-here (f .before);
+        is-block = omega (arith, f .if5 .left);
+        none-flies = no-of (g .before .any .result) (g .before .any .ensures) (g .if6 .left);
+        some-waits = yes-not (c .before .any2 .result) (c .before .any2 .ensures) (c .if7 .left);
+      };
+    }
+
+pub write-refusal-spec : {M : Type 1} → statement M
+write-refusal-spec =
+    tie.close
+    (tie.spec
+    returns
+    returns-2
+    returns-3
+    is-sound-requires
+    returns-4
+    returns-5
+    any-requires
+    returns-6
+    any-requires-2
+    returns-7
+    returns-8)

@@ -1,0 +1,42 @@
+-- `create::keep` meets its contract. Assumes nothing.
+use Prim.Native.Nat.{ℕ}
+use mathlib.Core.Path.{_≡_, sym, ap, _∙_}
+use native.Mathlib.Nat.{mul-comm}
+use borrow.Author.Needs.{needs}
+use denote.Ref.{now}
+use Rattle.spans.specs.Spans.{splice, part}
+use Rattle.cache.specs.Judged.{keptAt}
+use Rattle.cache.proofs.create.keep.Statement.{statement}
+use Rattle.cache.proofs.create.keep.Tie as tie
+
+enum-known-hold : tie.Need-enum-known-hold
+enum-known-hold c = search needs
+
+cast-copy : tie.Need-cast-copy
+cast-copy c = search needs
+
+mul-copy : tie.Need-mul-copy
+mul-copy c = search needs
+
+copy-requires : tie.Need-copy-requires
+copy-requires c κs = search needs
+
+enum-told : tie.Need-enum-told
+enum-told c = search needs
+
+same-length : tie.Need-same-length
+same-length c = search needs
+
+returns : tie.Need-returns
+returns c =
+    let h = c .before .before .before .before .before in
+    let a = h .before .before .before .before .args in
+    c .before .before .copy .ensures
+    ∙ ap (λ (p : ℕ). splice (now (a .undo)) p (part (now (a .image)) (a .at) (a .n))) (mul-comm (h .hold .given .0 .0) 64)
+    ∙ ap (keptAt (now (a .undo)) (now (a .image)) (a .at) (a .n)) (sym (h .hold .given .1))
+
+returns-2 : tie.Need-returns-2
+returns-2 c = search needs
+
+pub keep-spec : {M : Type 1} → statement M
+keep-spec = tie.close (tie.spec enum-known-hold cast-copy mul-copy copy-requires enum-told same-length returns returns-2)

@@ -1,0 +1,50 @@
+-- What create and write know once their first refusals are judged. Private functions judge them; no public promise cites this file.
+use Prim.Native.Nat.{ℕ, _+_, _≤_, _<_}
+use mathlib.Core.Path.{_≡_}
+use mathlib.Core.List.{List}
+use lib.ListN.{length}
+use Rattle.spans.specs.Spans.{splice, part}
+use Rattle.rules.specs.declared.Hold.{Hold}
+use Rattle.rules.specs.declared.Hold.the-variants as hold
+use Rattle.rules.specs.declared.Slot.{Slot}
+use Rattle.rules.specs.Sizes.{roomStart, blocks, blockBytes, imageBytes, undoBytes, mostBytes, mostNamed, lastNumber}
+use Rattle.rules.specs.Table.{Table, Sound, withSlots, withNext}
+use Rattle.rules.specs.Create.{Change, acceptedSlots}
+use Rattle.rules.specs.Refusals.{Case, First, NamesUnissued, Flies, Waits}
+
+-- k is 0 and the call is ready to go on, or it is the first of the call's cases that holds
+pub record Judged (cases : List Case) (Ready : Type 0) (k : ℕ) : Type 0 where
+  pub refused : (k ≡ 0 → ⊥) → First cases k
+  pub ready : k ≡ 0 → Ready
+
+-- none of 1 to 8 holds of a create
+pub record CreateReady (t : Table) (image undo : List ℕ) (c : Change) : Type 0 where
+  pub image-whole : length image ≡ imageBytes
+  pub undo-whole : length undo ≡ undoBytes
+  pub sound : Sound t
+  pub is-block : c .block < blocks
+  pub len-least : 1 ≤ length (c .bytes)
+  pub len-most : length (c .bytes) ≤ mostBytes
+  pub ends : c .offset + length (c .bytes) ≤ blockBytes
+  pub few-named : length (c .named) ≤ mostNamed
+  pub issued : NamesUnissued t c → ⊥
+  pub last : t .next ≤ lastNumber
+
+-- none of 1 to 12 holds of a write
+pub record WriteReady (t : Table) (image undo block : List ℕ) (b : ℕ) : Type 0 where
+  pub image-whole : length image ≡ imageBytes
+  pub undo-whole : length undo ≡ undoBytes
+  pub block-whole : length block ≡ blockBytes
+  pub sound : Sound t
+  pub is-block : b < blocks
+  pub none-flies : Flies (t .slots) b → ⊥
+  pub some-waits : Waits (t .slots) b
+
+-- the undo area once the n old bytes of the image from place `at` are kept, where the patch is soft
+abbrev pub keptAt : List ℕ → List ℕ → ℕ → ℕ → Hold → List ℕ
+keptAt undo image at n hold.Hard = undo
+keptAt undo image at n (hold.Soft r) = splice undo (roomStart r) (part image at n)
+
+-- the table with the patch p in slot j, and next grown by one
+abbrev pub withPatch : Table → Slot → ℕ → Hold → Table
+withPatch t p j h = withNext (t .next + 1) (withSlots (acceptedSlots (t .slots) p j h) t)

@@ -1,0 +1,54 @@
+// Ask and count: they look and change nothing.
+ghost use Rattle.rules.specs.Calls.{Asks, Counts};
+ghost use Rattle.cache.specs.Seen.{seen};
+use crate::Table;
+use rules::AskAnswer;
+use rules::CountAnswer;
+use rules::State;
+use slots::sound::is_sound;
+use slots::walks::count_of;
+use slots::walks::find;
+use slots::words::Word;
+
+impl Table {
+    // Where the patch with the number is. A number in no slot has committed, maybe long ago.
+    pub fn ask(self, number: u32) -> AskAnswer
+        ensures { λ r. ⌜ Asks (seen self) number r ⌝ }
+    {
+        let slots = self.slots;
+        if !is_sound(self.first, self.next, slots) {
+            return AskAnswer::Refused(2);
+        }
+        if number < self.first {
+            return AskAnswer::Refused(7);
+        }
+        if self.next <= number {
+            return AskAnswer::Refused(7);
+        }
+        let i = find(slots, number);
+        if 63 < i {
+            return AskAnswer::Committed;
+        }
+        let s = slots[i];
+        let u = s.state;
+        match u {
+            State::Free => AskAnswer::Committed,
+            State::Waiting(_) => AskAnswer::Waiting,
+            State::InFlight(_) => AskAnswer::InFlight,
+        }
+    }
+
+    // How many patches of the block wait.
+    pub fn count(self, block: u32) -> CountAnswer
+        ensures { λ r. ⌜ Counts (seen self) block r ⌝ }
+    {
+        let slots = self.slots;
+        if !is_sound(self.first, self.next, slots) {
+            return CountAnswer::Refused(2);
+        }
+        if 63 < block {
+            return CountAnswer::Refused(3);
+        }
+        CountAnswer::Granted(count_of(slots, Word::Waiting, block))
+    }
+}

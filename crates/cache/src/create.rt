@@ -1,0 +1,148 @@
+// Create: a change becomes a patch in the lowest free slot, with the number next.
+ghost use Prim.Native.Nat.{_+_, _≤_, _<_};
+ghost use lib.ListN.{length};
+ghost use mathlib.Core.Path.{_≡_};
+ghost use Rattle.rules.specs.Create.{patch};
+ghost use Rattle.rules.specs.Refusals.{createCases};
+ghost use Rattle.rules.specs.Calls.{Creates};
+ghost use Rattle.cache.specs.Seen.{seen, creation};
+ghost use Rattle.cache.specs.Judged.{Judged, CreateReady, keptAt, withPatch};
+use crate::Created;
+use crate::Table;
+use accept::befores::befores;
+use accept::hold::Holding;
+use accept::hold::hold_for;
+use accept::lowest::lowest_slot;
+use accept::named::unissued;
+use moves::create::accepted;
+use rules::CreateAnswer;
+use rules::Hold;
+use rules::Slot;
+use rules::State;
+use slots::sound::is_sound;
+
+// The old bytes of a soft patch's range, n from place `at`, into the first bytes of its room.
+fn keep(undo: &mut [u8], image: &[u8], hold: Hold, at: usize, n: usize)
+    ensures { λ _. ⌜ now (undo .exit) ≡ keptAt (now (undo .entry)) (now (image .entry)) at n hold ⌝ }
+{
+    if let Hold::Soft(r) = hold {
+        spans::copy(undo, (r as usize) * 64, image, at, n);
+    }
+}
+
+impl Table {
+    // The first of the refusals 1 to 8 that holds, or 0. No sum is formed before its parts are bounded.
+    fn create_refusal(
+        self,
+        image: &[u8],
+        undo: &[u8],
+        block: u32,
+        offset: u32,
+        bytes: &[u8],
+        named: &[u32],
+    ) -> u32
+        ensures { λ r. ⌜ Judged (createCases (seen self) (now (image .entry)) (now (undo .entry)) (record { block = block; offset = offset; bytes = now (bytes .entry); named = now (named .entry) })) (CreateReady (seen self) (now (image .entry)) (now (undo .entry)) (record { block = block; offset = offset; bytes = now (bytes .entry); named = now (named .entry) })) r ⌝ }
+    {
+        if image.len() != 16384 {
+            return 1;
+        }
+        if undo.len() != 1024 {
+            return 1;
+        }
+        let slots = self.slots;
+        if !is_sound(self.first, self.next, slots) {
+            return 2;
+        }
+        if 63 < block {
+            return 3;
+        }
+        if bytes.len() == 0 {
+            return 4;
+        }
+        if 64 < bytes.len() {
+            return 4;
+        }
+        if 256 - bytes.len() < offset as usize {
+            return 5;
+        }
+        if 8 < named.len() {
+            return 6;
+        }
+        if unissued(self.first, self.next, named) {
+            return 7;
+        }
+        if self.next == 1000000001 {
+            return 8;
+        }
+        0
+    }
+
+    // The new patch: the number next, its block and range, waiting, with its befores.
+    fn patch(self, block: u32, offset: u32, bytes: &[u8], named: &[u32], hold: Hold) -> Slot
+        requires { ⌜ length (now bytes) ≤ 64 ⌝ }
+        ensures { λ r. ⌜ r ≡ patch (seen self) (record { block = block; offset = offset; bytes = now (bytes .entry); named = now (named .entry) }) hold ⌝ }
+    {
+        let slots = self.slots;
+        Slot {
+            state: State::Waiting(hold),
+            number: self.next,
+            block,
+            offset,
+            len: bytes.len() as u32,
+            befores: befores(slots, block, offset, bytes, named),
+        }
+    }
+
+    // The table with the patch in slot j, and next grown by one.
+    fn with_patch(self, patch: Slot, j: usize, hold: Hold) -> Table
+        requires { ⌜ self .next + 1 < 4294967296 ⌝ }
+        ensures { λ r. ⌜ seen r ≡ withPatch (seen self) patch j hold ⌝ }
+    {
+        let slots = self.slots;
+        let mut next = self.with_slots(accepted(slots, patch, j, hold));
+        next.next = self.next + 1;
+        next
+    }
+
+    pub fn create(
+        self,
+        image: &mut [u8],
+        undo: &mut [u8],
+        block: u32,
+        offset: u32,
+        bytes: &[u8],
+        named: &[u32],
+    ) -> Created
+        ensures { λ r. ⌜ Creates (seen self) (now (image .entry)) (now (undo .entry)) (record { block = block; offset = offset; bytes = now (bytes .entry); named = now (named .entry) }) (creation r (now (image .exit)) (now (undo .exit))) ⌝ }
+    {
+        let refusal = self.create_refusal(image, undo, block, offset, bytes, named);
+        if refusal != 0 {
+            return Created {
+                table: self,
+                answer: CreateAnswer::Refused(refusal),
+            };
+        }
+        let slots = self.slots;
+        let j = lowest_slot(slots);
+        if 63 < j {
+            return Created {
+                table: self,
+                answer: CreateAnswer::Refused(9),
+            };
+        }
+        let Holding::Of(hold) = hold_for(slots, block) else {
+            return Created {
+                table: self,
+                answer: CreateAnswer::Refused(10),
+            };
+        };
+        let patch = self.patch(block, offset, bytes, named, hold);
+        let at = (block as usize) * 256 + (offset as usize);
+        keep(undo, image, hold, at, bytes.len());
+        spans::copy(image, at, bytes, 0, bytes.len());
+        Created {
+            table: self.with_patch(patch, j, hold),
+            answer: CreateAnswer::Granted(self.next, hold),
+        }
+    }
+}

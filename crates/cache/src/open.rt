@@ -1,0 +1,52 @@
+// Open: an empty table.
+ghost use Rattle.rules.specs.Calls.{Opens};
+ghost use Rattle.rules.specs.Open.{opened};
+ghost use Rattle.cache.specs.Seen.{seen, opening};
+ghost use mathlib.Core.Path.{_≡_};
+use crate::Opened;
+use crate::Table;
+use rules::Answer;
+use rules::Slot;
+use rules::State;
+
+impl Table {
+    // The empty table whose first and next number are n.
+    fn empty(n: u32) -> Table
+        ensures { λ r. ⌜ seen r ≡ opened n ⌝ }
+    {
+        let free = Slot {
+            state: State::Free,
+            number: 0,
+            block: 0,
+            offset: 0,
+            len: 0,
+            befores: 0,
+        };
+        Table {
+            first: n,
+            next: n,
+            slots: [free; 64],
+        }
+    }
+
+    pub fn open(first: u32) -> Opened
+        ensures { λ r. ⌜ Opens first (opening r) ⌝ }
+    {
+        if first == 0 {
+            return Opened {
+                table: Table::empty(1),
+                answer: Answer::Refused(15),
+            };
+        }
+        if 1000000000 < first {
+            return Opened {
+                table: Table::empty(1),
+                answer: Answer::Refused(15),
+            };
+        }
+        Opened {
+            table: Table::empty(first),
+            answer: Answer::Granted,
+        }
+    }
+}

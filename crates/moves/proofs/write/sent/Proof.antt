@@ -1,0 +1,74 @@
+-- `moves::write::sent` meets its contract: a walk whose turn sends the slot where the set has it. Assumes nothing.
+use Prim.Native.Nat.{_≤_, _-_}
+use mathlib.Core.Path.{ap, _∙_}
+use mathlib.Core.Bool.{Bool}
+use native.Mathlib.Omega.{arith}
+use borrow.Author.Needs.{needs}
+use Rattle.masks.specs.Sets as Sets
+use Rattle.rules.specs.Table.{slotAt}
+use Rattle.rules.specs.Write.{sentSlots}
+use Rattle.moves.specs.Steps.{sentSlot}
+use Rattle.moves.proofs.Walked.{Walked, walk-starts, walk-goes-on, walk-ends}
+use Rattle.moves.proofs.write.sent.Statement.{statement}
+use Rattle.moves.proofs.write.sent.Tie as tie
+
+abbrev Inv-loop : tie.InvT-loop
+Inv-loop set next₀ i₀ next i = (i ≤ 64) × Walked (λ k. sentSlot (Sets.has set k)) next₀ next i
+
+abbrev μ-loop : tie.MeasureT-loop
+μ-loop set next₀ i₀ next i = 64 - i
+
+loop-holds : tie.Need-loop-holds Inv-loop μ-loop
+loop-holds c = (omega arith, walk-starts (c .good .0 .1 .0 .1))
+
+mul-sent-slot : tie.Need-mul-sent-slot Inv-loop μ-loop
+mul-sent-slot c = search needs
+
+array-copy-out-sent-slot : tie.Need-array-copy-out-sent-slot Inv-loop μ-loop
+array-copy-out-sent-slot c = search needs
+
+has-requires : tie.Need-has-requires Inv-loop μ-loop
+has-requires c κs = search needs
+
+sent-slot-requires : tie.Need-sent-slot-requires Inv-loop μ-loop
+sent-slot-requires c κs = search needs
+
+mul-next : tie.Need-mul-next Inv-loop μ-loop
+mul-next c = search needs
+
+array-set-from-next : tie.Need-array-set-from-next Inv-loop μ-loop
+array-set-from-next c = search needs
+
+add-i : tie.Need-add-i Inv-loop μ-loop
+add-i c = search needs
+
+loop-less : tie.Need-loop-less Inv-loop μ-loop
+loop-less c = search needs
+
+loop-again : tie.Need-loop-again Inv-loop μ-loop
+loop-again c =
+    let at = c .before .before .before .before in
+    let s = slotAt (at .loop .next) (at .loop .i) in
+    (omega arith, walk-goes-on (at .loop .inv .1) (c .before .before .before .loop-test .taken) (c .sent-slot .ensures ∙ ap (λ (goes : Bool). sentSlot goes s) (c .before .has .ensures)))
+
+returns : tie.Need-returns Inv-loop μ-loop
+unfolding sentSlots
+returns c = walk-ends (c .before .loop .inv .1) (c .loop-test .left)
+
+pub sent-spec : {M : Type 1} → statement M
+sent-spec =
+    tie.close
+    (tie.spec
+    Inv-loop
+    μ-loop
+    loop-holds
+    mul-sent-slot
+    array-copy-out-sent-slot
+    has-requires
+    sent-slot-requires
+    mul-next
+    array-set-from-next
+    add-i
+    loop-less
+    loop-again
+    returns)

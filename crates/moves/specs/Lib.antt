@@ -1,0 +1,2 @@
+-- What one turn of each walk makes of a slot.
+pub mod Steps

@@ -1,0 +1,37 @@
+// The slots with a block's in-flight patches committed: their slots free, and no patch after them.
+ghost use mathlib.Core.Path.{_≡_};
+ghost use Rattle.rules.specs.Complete.{completedSlots};
+ghost use Rattle.moves.specs.Steps.{landedSlot};
+use crate::slot::free;
+use crate::slot::with_befores;
+use rules::Slot;
+use slots::walks::set_of;
+use slots::words::Word;
+use slots::words::is_used;
+
+// A slot when the patches of `landed` commit: free where it is one of them. A patch that stays
+// loses them from its befores, and what is left in a free slot stays.
+fn landed_slot(s: Slot, landed: u64, commits: bool) -> Slot
+    ensures { λ r. ⌜ r ≡ landedSlot landed commits s ⌝ }
+{
+    if commits {
+        return free();
+    }
+    let u = s.state;
+    if is_used(u) {
+        return with_befores(s, masks::without(s.befores, landed));
+    }
+    s
+}
+
+pub fn completed(slots: [Slot; 64], block: u32) -> [Slot; 64]
+    ensures { λ r. ⌜ r ≡ completedSlots slots block ⌝ }
+{
+    let landed = set_of(slots, Word::InFlight, block);
+    let mut next = slots;
+    for i in 0..64 {
+        let s = landed_slot(next[i], landed, masks::has(landed, i));
+        next[i] = s;
+    }
+    next
+}

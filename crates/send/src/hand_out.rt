@@ -1,0 +1,98 @@
+// The block handed out: the working block, with each patch left behind taken back from its room,
+// highest number first. Taken back in any other order, overlapping patches would leave new bytes.
+ghost use Prim.Native.Nat.{_+_, _<_};
+ghost use mathlib.Core.Path.{_≡_};
+ghost use Rattle.spans.specs.Spans.{splice, part};
+ghost use Rattle.rules.specs.Sizes.{roomStart};
+ghost use Rattle.rules.specs.Slots.{roomOf};
+ghost use Rattle.rules.specs.Table.{tableOf};
+ghost use Rattle.send.specs.Back.{Best, AllBack};
+ghost use Rattle.send.specs.Handed.{Handed};
+use rules::Hold;
+use rules::Slot;
+use rules::State;
+use slots::walks::set_of;
+use slots::words::Word;
+
+// The room of a soft waiting patch; 0 for any other, which is never taken back.
+fn room_of(u: State) -> u32
+    ensures { λ r. ⌜ r ≡ roomOf u ⌝ }
+{
+    match u {
+        State::Free => 0,
+        State::Waiting(h) => match h {
+            Hold::Hard => 0,
+            Hold::Soft(r) => r,
+        },
+        State::InFlight(_) => 0,
+    }
+}
+
+// Slot i against the best so far (64: none yet): the higher number, if it is below `below`.
+fn better(slots: [Slot; 64], left: u64, below: u32, best: usize, i: usize) -> usize
+    requires { ⌜ i < 64 ⌝ }
+    ensures { λ r. ⌜ (Best slots left below i best → Best slots left below (i + 1) r) ⌝ }
+{
+    if !masks::has(left, i) {
+        return best;
+    }
+    let n = slots[i].number;
+    if below <= n {
+        return best;
+    }
+    if 63 < best {
+        return i;
+    }
+    if slots[best].number < n { i } else { best }
+}
+
+// Of the slots of `left`, that with the highest number below `below`; 64 where there is none.
+fn highest(slots: [Slot; 64], left: u64, below: u32) -> usize
+    ensures { λ r. ⌜ Best slots left below 64 r ⌝ }
+{
+    let mut best = 64;
+    for i in 0..64 {
+        best = better(slots, left, below, best, i);
+    }
+    best
+}
+
+// The patch of slot s taken back.
+fn take_back(out: &mut [u8], undo: &[u8], s: Slot)
+    ensures { λ _. ⌜ now (out .exit) ≡ splice (now (out .entry)) (s .offset) (part (now (undo .entry)) (roomStart (roomOf (s .state))) (s .len)) ⌝ }
+{
+    let u = s.state;
+    let from = (room_of(u) as usize) * 64;
+    spans::copy(out, s.offset as usize, undo, from, s.len as usize);
+}
+
+// All patches of `left` with a number below `top` taken back.
+fn take_all_back(out: &mut [u8], undo: &[u8], slots: [Slot; 64], left: u64, top: u32)
+    ensures { λ _. ⌜ AllBack slots left (now (undo .entry)) top (now (out .entry)) (now (out .exit)) ⌝ }
+{
+    let mut below = top;
+    let mut i = highest(slots, left, below);
+    while i < 64 {
+        let s = slots[i];
+        take_back(out, undo, s);
+        below = s.number;
+        i = highest(slots, left, below);
+    }
+}
+
+pub fn hand_out(
+    out: &mut [u8],
+    image: &[u8],
+    undo: &[u8],
+    block: u32,
+    first: u32,
+    next: u32,
+    slots: [Slot; 64],
+    set: u64,
+)
+    ensures { λ _. ⌜ Handed (tableOf first next slots) block set (now (image .entry)) (now (undo .entry)) (now (out .entry)) (now (out .exit)) ⌝ }
+{
+    spans::copy(out, 0, image, (block as usize) * 256, 256);
+    let left = masks::without(set_of(slots, Word::Waiting, block), set);
+    take_all_back(out, undo, slots, left, next);
+}

@@ -1,0 +1,4 @@
+// What a write sends: the largest set of a block's waiting patches that may go, and the block
+// handed out, with what stays behind taken back.
+pub mod hand_out;
+pub mod largest;
