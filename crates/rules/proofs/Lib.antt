@@ -4,6 +4,7 @@ pub mod Outcomes
 pub mod SlotsBy
 pub mod Lowest
 pub mod Largest
+pub mod TakenBack
 pub mod Pins
 pub mod Grants
 pub mod OneAnswer

@@ -58,7 +58,7 @@ committed-dropped t c n k = same-befores (t .slots) c n (λ i l u e. absurd (k .
 
 -- taking back changes no length, so a block handed out has 256 bytes
 module _ (ss : List Slot) (left : ℕ → Bool) (undo : List ℕ) where
-  length-back-number : (n i : ℕ) (block : List ℕ) → length (backNumber ss left undo n i block) ≡ length block
+  pub length-back-number : (n i : ℕ) (block : List ℕ) → length (backNumber ss left undo n i block) ≡ length block
   unfolding backNumber takenBack
   length-back-number n zero block = refl
   length-back-number n (suc i) block = go (left i && eqb (slotAt ss i .number) n) ∙ length-back-number n i block

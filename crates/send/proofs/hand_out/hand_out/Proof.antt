@@ -17,7 +17,7 @@ use Rattle.rules.specs.Table.{Sound, tableOf, used, waitsOn}
 use Rattle.rules.specs.Write.{leftBehind, backDown, handedOut}
 use Rattle.send.specs.Back.{Numbered, AllBack}
 use Rattle.send.specs.Handed.{Handed}
-use Rattle.send.proofs.Back.{down-ext}
+use Rattle.rules.proofs.TakenBack.{down-ext}
 use Rattle.send.proofs.Words.{has-of, waits-on-used}
 use Rattle.send.proofs.hand_out.hand_out.Statement.{statement}
 use Rattle.send.proofs.hand_out.hand_out.Tie as tie

@@ -1,0 +1,11 @@
+-- The theorems are in Demand3, QuestionFour and QuestionSeven; the rest is how they are shown.
+pub mod Views
+pub mod Notes
+pub mod Lookup
+pub mod Radio
+pub mod Create
+pub mod Complete
+pub mod Write
+pub mod Histories
+pub mod Safe
+pub mod Demand3

@@ -1,0 +1,157 @@
+-- The notes of a history: what writes leave on the store, block by block, and which numbers they sent.
+use Prim.Native.Nat.{ℕ, _+_, _<_}
+use native.Mathlib.Nat.{add-zero, zero-add}
+use native.Mathlib.Omega.{arith}
+use mathlib.Core.Path.{_≡_, refl, sym, _∙_, ap, subst}
+use mathlib.Core.Bool.{Bool, true, false, cond, _&&_, _||_, not, or-assoc}
+use mathlib.Core.List.{List, [], _∷_, _++_, List·Memᴰ, List·Memᴰ·head, List·Memᴰ·tail, List·Memᴰ·not-nil}
+use mathlib.Core.Logic.{_⊎_, inl, inr, ⊎-elim}
+use lib.Dec.{eqb}
+use lib.ListN.{length}
+use Rattle.masks.proofs.Decided.{clash, true-or-false, or-true}
+use Rattle.spans.specs.Spans.{splice}
+use Rattle.spans.proofs.Laws.{length-splice}
+use Rattle.rules.specs.Sizes.{imageBytes, blockBytes, blocks, blockStart}
+use Rattle.rules.specs.Create.{isIn}
+use Rattle.cut.specs.Changes.{Store, Change, covers, carryOut}
+use Rattle.cut.proofs.Facts.{carry-same, carry-inside, carry-outside}
+use Rattle.demands.specs.History.{Sent, those}
+use Rattle.demands.specs.Demand3.{written, sentIn}
+use Rattle.demands.proofs.Views.{view, view-splice, Within, covers-of, inside-of}
+
+-- a write is a change of all its block's bytes
+abbrev pub whole : Sent → Change
+whole w = record { number = 0; block = w .block; offset = 0; bytes = w .bytes }
+
+pub record Whole (w : Sent) : Type 0 where
+  pub is-block : w .block < blocks
+  pub size : length (w .bytes) ≡ blockBytes
+
+abbrev pub AllWhole : List Sent → Type 0
+AllWhole ws = (w : Sent) → List·Memᴰ w ws → Whole w
+
+pub length-written : (ws : List Sent) (store : List ℕ) → length (written ws store) ≡ length store
+unfolding written
+length-written [] store = refl
+length-written (w ∷ ws) store = length-splice (written ws store) _ _ ∙ length-written ws store
+
+module _ (store : List ℕ) (e : length store ≡ imageBytes) (b i : ℕ) where
+  -- one more write
+  pub view-written : (w : Sent) (ws : List Sent) → Whole w → view (written (w ∷ ws) store) b i ≡ carryOut (whole w) (view (written ws store)) b i
+  unfolding written
+  view-written w ws h =
+      let s = h .size in
+      let l = h .is-block in
+      ap (λ (n : ℕ). view (splice (written ws store) n (w .bytes)) b i) (sym (add-zero (blockStart (w .block))))
+      ∙ view-splice (whole w) (written ws store) (record { block = l; ends = omega arith }) (length-written ws store ∙ e) b i
+
+  -- what is under a run of writes shows through alike
+  pub written-alike : (out M L : List Sent) → AllWhole out → view (written M store) b i ≡ view (written L store) b i → view (written (out ++ M) store) b i ≡ view (written (out ++ L) store) b i
+  written-alike [] M L a h = h
+  written-alike (w ∷ out) M L a h =
+      view-written w (out ++ M) (a w (List·Memᴰ·head refl))
+      ∙ carry-same b i (whole w) (view (written (out ++ M) store)) (view (written (out ++ L) store)) (written-alike out M L (λ x m. a x (List·Memᴰ·tail m)) h)
+      ∙ sym (view-written w (out ++ L) (a w (List·Memᴰ·head refl)))
+
+  -- of a run of writes those to some blocks: there the blocks are as if all were there, elsewhere as if none were
+  pub some-written : (new : ℕ → Bool) (out L : List Sent) → AllWhole out
+      → view (written (those (λ w. new (w .block)) out ++ L) store) b i ≡ cond (new b) (view (written (out ++ L) store) b i) (view (written L store) b i)
+  unfolding those
+  some-written new [] L a = none (new b)
+    where
+      none : (v : Bool) → view (written L store) b i ≡ cond v (view (written L store) b i) (view (written L store) b i)
+      none true = refl
+      none false = refl
+  some-written new (w ∷ out) L a =
+      by (new (w .block)) refl (covers (whole w) b i) refl (some-written new out L (λ x m. a x (List·Memᴰ·tail m)))
+    where
+      hw : Whole w
+      hw = a w (List·Memᴰ·head refl)
+
+      picked : Bool → List Sent
+      picked v = cond v (w ∷ those (λ w. new (w .block)) out) (those (λ w. new (w .block)) out)
+
+      -- the write covers the place: all of its block is there or none of it
+      by : (v : Bool) → new (w .block) ≡ v → (c : Bool) → covers (whole w) b i ≡ c
+          → view (written (those (λ w. new (w .block)) out ++ L) store) b i ≡ cond (new b) (view (written (out ++ L) store) b i) (view (written L store) b i)
+          → view (written (cond (new (w .block)) (w ∷ those (λ w. new (w .block)) out) (those (λ w. new (w .block)) out) ++ L) store) b i
+          ≡ cond (new b) (view (written (w ∷ (out ++ L)) store) b i) (view (written L store) b i)
+      by true n true c ih =
+          let same : new b ≡ true = ap new (inside-of (whole w) b i c .0) ∙ n in
+          rw (n, same)
+          (view-written w (those (λ w. new (w .block)) out ++ L) hw ∙ carry-inside b i (whole w) _ c
+          ∙ sym (carry-inside b i (whole w) _ c) ∙ sym (view-written w (out ++ L) hw))
+      by false n true c ih =
+          let same : new b ≡ false = ap new (inside-of (whole w) b i c .0) ∙ n in
+          rw (n, same) (ih ∙ ap (λ (v : Bool). cond v (view (written (out ++ L) store) b i) (view (written L store) b i)) same)
+      by v n false c ih =
+          let under : view (written (w ∷ (out ++ L)) store) b i ≡ view (written (out ++ L) store) b i = view-written w (out ++ L) hw ∙ carry-outside b i (whole w) _ c in
+          top v n ∙ ih ∙ ap (λ (x : ℕ). cond (new b) x (view (written L store) b i)) (sym under)
+        where
+          top : (v : Bool) → new (w .block) ≡ v
+              → view (written (cond (new (w .block)) (w ∷ those (λ w. new (w .block)) out) (those (λ w. new (w .block)) out) ++ L) store) b i
+              ≡ view (written (those (λ w. new (w .block)) out ++ L) store) b i
+          top true q = rw q (view-written w (those (λ w. new (w .block)) out ++ L) hw ∙ carry-outside b i (whole w) _ c)
+          top false q = rw q
+
+-- ---- the numbers sent
+
+pub sent-in-both : (n : ℕ) (a b : List Sent) → sentIn n (a ++ b) ≡ (sentIn n a || sentIn n b)
+unfolding sentIn
+sent-in-both n [] b = refl
+sent-in-both n (w ∷ a) b = ap (λ (x : Bool). isIn n (w .numbers) || x) (sent-in-both n a b) ∙ sym (or-assoc (isIn n (w .numbers)) (sentIn n a) (sentIn n b))
+
+-- a number is sent to one block, so it is among the writes to some blocks just where its block is one of them
+pub sent-in-those : (new : ℕ → Bool) (n d : ℕ) (out : List Sent) → ((w : Sent) → List·Memᴰ w out → isIn n (w .numbers) ≡ true → w .block ≡ d)
+    → sentIn n (those (λ w. new (w .block)) out) ≡ (new d && sentIn n out)
+unfolding sentIn those
+sent-in-those new n d [] h = none (new d)
+  where
+    none : (v : Bool) → false ≡ (v && false)
+    none true = refl
+    none false = refl
+sent-in-those new n d (w ∷ out) h =
+    by (new (w .block)) refl (isIn n (w .numbers)) refl (sent-in-those new n d out (λ x m. h x (List·Memᴰ·tail m)))
+  where
+    by : (v : Bool) → new (w .block) ≡ v → (c : Bool) → isIn n (w .numbers) ≡ c → sentIn n (those (λ w. new (w .block)) out) ≡ (new d && sentIn n out)
+        → sentIn n (cond (new (w .block)) (w ∷ those (λ w. new (w .block)) out) (those (λ w. new (w .block)) out)) ≡ (new d && (isIn n (w .numbers) || sentIn n out))
+    by true q true c ih = let same : new d ≡ true = sym (ap new (h w (List·Memᴰ·head refl) c)) ∙ q in rw (q, c, same)
+    by false q true c ih = let same : new d ≡ false = sym (ap new (h w (List·Memᴰ·head refl) c)) ∙ q in rw (q, same) (ih ∙ rw same)
+    by true q false c ih = rw (q, c) ih
+    by false q false c ih = rw (q, c) ih
+
+-- a write that sent the number
+pub sender : (n : ℕ) (ws : List Sent) → sentIn n ws ≡ true → (w : Sent) × List·Memᴰ w ws × (isIn n (w .numbers) ≡ true)
+unfolding sentIn
+sender n [] e = absurd (clash e refl)
+sender n (w ∷ ws) e = by (or-true (isIn n (w .numbers)) (sentIn n ws) e) (λ p. sender n ws p)
+  where
+    by : (isIn n (w .numbers) ≡ true) ⊎ (sentIn n ws ≡ true) → (sentIn n ws ≡ true → (x : Sent) × List·Memᴰ x ws × (isIn n (x .numbers) ≡ true))
+        → (x : Sent) × List·Memᴰ x (w ∷ ws) × (isIn n (x .numbers) ≡ true)
+    by (inl p) f = (w, List·Memᴰ·head refl, p)
+    by (inr p) f = let s = f p in (s .0, List·Memᴰ·tail (s .1), s .2)
+
+-- those of a list are of the list, and pass the test
+pub of-those : (test : Sent → Bool) (ws : List Sent) (x : Sent) → List·Memᴰ x (those test ws) → List·Memᴰ x ws × (test x ≡ true)
+unfolding those
+of-those test [] x m = absurd (List·Memᴰ·not-nil m)
+of-those test (w ∷ ws) x m = by (test w) refl m (λ k. of-those test ws x k)
+  where
+    by : (v : Bool) → test w ≡ v → List·Memᴰ x (cond v (w ∷ those test ws) (those test ws)) → (List·Memᴰ x (those test ws) → List·Memᴰ x ws × (test x ≡ true)) → List·Memᴰ x (w ∷ ws) × (test x ≡ true)
+    by true e (List·Memᴰ·head q) f = (List·Memᴰ·head q, ap test q ∙ e)
+    by true e (List·Memᴰ·tail k) f = let r = f k in (List·Memᴰ·tail (r .0), r .1)
+    by false e k f = let r = f k in (List·Memᴰ·tail (r .0), r .1)
+
+-- membership in two lists of writes, one before the other
+pub mem-left : {a : List Sent} (b : List Sent) (w : Sent) → List·Memᴰ w a → List·Memᴰ w (a ++ b)
+mem-left b w (List·Memᴰ·head e) = List·Memᴰ·head e
+mem-left b w (List·Memᴰ·tail m) = List·Memᴰ·tail (mem-left b w m)
+
+pub mem-right : (a : List Sent) {b : List Sent} (w : Sent) → List·Memᴰ w b → List·Memᴰ w (a ++ b)
+mem-right [] w m = m
+mem-right (x ∷ a) w m = List·Memᴰ·tail (mem-right a w m)
+
+pub mem-either : (a b : List Sent) (w : Sent) → List·Memᴰ w (a ++ b) → List·Memᴰ w a ⊎ List·Memᴰ w b
+mem-either [] b w m = inr m
+mem-either (x ∷ a) b w (List·Memᴰ·head e) = inl (List·Memᴰ·head e)
+mem-either (x ∷ a) b w (List·Memᴰ·tail m) = ⊎-elim (λ k. inl (List·Memᴰ·tail k)) (λ k. inr k) (mem-either a b w m)

@@ -1,0 +1,129 @@
+-- A good history is safe at any cut: what `cut` shows of bytes seen one by one, said of lists of 16,384 and of the notes.
+use Prim.Native.Nat.{ℕ, _+_, _<_}
+use native.Mathlib.Omega.{arith}
+use mathlib.Core.Path.{_≡_, refl, sym, _∙_, ap, ap₂, subst}
+use mathlib.Core.Bool.{Bool, true, false, cond, _&&_, _||_}
+use mathlib.Core.List.{List, [], _∷_, _++_, map, List·Memᴰ, List·Memᴰ·head, List·Memᴰ·tail}
+use mathlib.Core.Logic.{_≢_, _⊎_, inl, inr, ⊎-elim}
+use lib.ListN.{length}
+use Rattle.spans.proofs.Laws.{length-splice}
+use Rattle.rules.specs.Sizes.{imageBytes}
+use Rattle.rules.specs.Create.{changed, isIn}
+use Rattle.cut.specs.Changes as cut
+use Rattle.cut.specs.Changes.{Store, Change, after, only, carryOut, Earlier}
+use Rattle.cut.specs.World as world
+use Rattle.cut.specs.World.{State, waiting, inFlight, committed}
+use Rattle.cut.specs.Cut as cutting
+use Rattle.cut.specs.Cut.{afterCut, reached, landed}
+use Rattle.cut.proofs.Facts.{carry-same, same-or-other}
+use Rattle.cut.proofs.Core.{cut-safe}
+use Rattle.demands.specs.History.{History, Accepted, Sent, those}
+use Rattle.demands.specs.Demand3.{written, onStore, storeAfterCut, sentIn, hasLanded, carriedOut, AskedFor, Follows, CutSafe}
+use Rattle.demands.proofs.Views.{view, view-splice, view-same, Within}
+use Rattle.demands.proofs.Notes.{length-written, some-written, sent-in-both, sent-in-those, mem-left}
+use Rattle.demands.proofs.Lookup.{slotOf}
+use Rattle.demands.proofs.Radio.{stateAt, plain, Names, Numbered, isDone, isOut, Good}
+use Rattle.demands.proofs.Radio as radio
+use Rattle.demands.proofs.Create.{number-below, number-one}
+
+-- the changes that pass a test carried out on an image, seen byte by byte
+length-carried : (test : Accepted → Bool) (l : List Accepted) (store : List ℕ) → length (carriedOut test l store) ≡ length store
+unfolding carriedOut changed
+length-carried test [] store = refl
+length-carried test (a ∷ l) store = go (test a) ∙ length-carried test l store
+  where
+    go : (v : Bool) → length (cond v (changed (carriedOut test l store) (a .change)) (carriedOut test l store)) ≡ length (carriedOut test l store)
+    go true = length-splice (carriedOut test l store) _ _
+    go false = refl
+
+view-carried : (test : Accepted → Bool) (word : Change → Bool) (store : List ℕ) → length store ≡ imageBytes → (b i : ℕ) (l : List Accepted)
+    → ((a : Accepted) → List·Memᴰ a l → test a ≡ word (plain a)) → ((a : Accepted) → List·Memᴰ a l → Within (plain a))
+    → view (carriedOut test l store) b i ≡ after (only word (map plain l)) (view store) b i
+unfolding carriedOut changed after only
+view-carried test word store e b i [] f w = refl
+view-carried test word store e b i (a ∷ l) f w =
+    go (test a) (word (plain a)) (f a (List·Memᴰ·head refl)) (view-carried test word store e b i l (λ x m. f x (List·Memᴰ·tail m)) (λ x m. w x (List·Memᴰ·tail m)))
+  where
+    go : (u v : Bool) → u ≡ v → view (carriedOut test l store) b i ≡ after (only word (map plain l)) (view store) b i
+        → view (cond u (changed (carriedOut test l store) (a .change)) (carriedOut test l store)) b i
+        ≡ after (cond v (plain a ∷ only word (map plain l)) (only word (map plain l))) (view store) b i
+    go true true q ih =
+        view-splice (plain a) (carriedOut test l store) (w a (List·Memᴰ·head refl)) (length-carried test l store ∙ e) b i
+        ∙ carry-same b i (plain a) (view (carriedOut test l store)) (after (only word (map plain l)) (view store)) ih
+    go false false q ih = ih
+    go true false q ih = absurd (let z : _≡_ {A = ℕ} 0 1 = cc in omega arith)
+    go false true q ih = absurd (let z : _≡_ {A = ℕ} 0 1 = cc in omega arith)
+
+-- of two accepted changes the one with the lower number was accepted earlier
+earlier-of : (first : ℕ) (l : List Accepted) (y x : Accepted) → Numbered first l → List·Memᴰ y l → List·Memᴰ x l → x .number < y .number → Earlier (map plain l) (plain y) (plain x)
+earlier-of first (a ∷ l) y x n (List·Memᴰ·head p) (List·Memᴰ·head q) e = let z : x .number ≡ y .number = ap (λ (w : Accepted). w .number) (q ∙ sym p) in absurd (omega arith)
+earlier-of first (a ∷ l) y x n (List·Memᴰ·head p) (List·Memᴰ·tail k) e =
+    subst (λ (z : Accepted). Earlier (plain a ∷ map plain l) (plain z) (plain x)) (sym p) (Earlier.here (in-log l x k))
+  where
+    in-log : (l : List Accepted) (x : Accepted) → List·Memᴰ x l → List·Memᴰ (plain x) (map plain l)
+    in-log (c ∷ l) x (List·Memᴰ·head q) = List·Memᴰ·head (ap plain q)
+    in-log (c ∷ l) x (List·Memᴰ·tail m) = List·Memᴰ·tail (in-log l x m)
+earlier-of first (a ∷ l) y x n (List·Memᴰ·tail m) (List·Memᴰ·head q) e =
+    let z : x .number ≡ first + length l = ap (λ (w : Accepted). w .number) q ∙ n .0 in absurd (omega (arith, number-below first l y (n .1) m))
+earlier-of first (a ∷ l) y x n (List·Memᴰ·tail m) (List·Memᴰ·tail k) e = Earlier.there (earlier-of first l y x (n .1) m k e)
+
+-- what is noted, and what the table says of it
+by-state : (new : Bool) (s : State) → ((new && isOut s) || isDone s) ≡ reached new s
+unfolding reached
+by-state true waiting = refl
+by-state false waiting = refl
+by-state true inFlight = refl
+by-state false inFlight = refl
+by-state true committed = refl
+by-state false committed = refl
+
+module _ (h : History) (g : Good h) (new : ℕ → Bool) where
+  -- a number that was sent is an accepted change's, and was sent to its block
+  pub sent-to : (a : Accepted) → List·Memᴰ a (h .accepted) → (w : Sent) → List·Memᴰ w (h .inFlight) → isIn (a .number) (w .numbers) ≡ true → w .block ≡ a .change .block
+  sent-to a m w k f =
+      let r = g .sent w (mem-left (h .landed) w k) (a .number) f in
+      sym (r .3) ∙ ap (λ (x : Accepted). x .change .block) (number-one (h .table .first) (h .accepted) (r .0) a (g .numbers) (r .1) m (r .2))
+
+  pub landed-agrees : (a : Accepted) → List·Memᴰ a (h .accepted) → hasLanded new h a ≡ landed new (radio.world h) (plain a)
+  unfolding hasLanded onStore landed
+  landed-agrees a m =
+      sent-in-both (a .number) (those (λ w. new (w .block)) (h .inFlight)) (h .landed)
+      ∙ ap (λ (x : Bool). x || sentIn (a .number) (h .landed)) (sent-in-those new (a .number) (a .change .block) (h .inFlight) (sent-to a m))
+      ∙ ap₂ (λ (x y : Bool). (new (a .change .block) && x) || y) (g .out a m) (g .done a m)
+      ∙ by-state (new (a .change .block)) (stateAt (h .table .slots) (slotOf (h .table .slots) (a .number)))
+
+  safe : cutting.CutSafe (view (h .opening)) (radio.world h) new
+  safe = cut-safe (g .safe) new
+
+  pub cut-seen : (b i : ℕ) → view (storeAfterCut new h) b i ≡ afterCut new (radio.world h) b i
+  unfolding storeAfterCut onStore afterCut
+  cut-seen b i = some-written (h .opening) (g .opening-whole) b i new (h .inFlight) (h .landed) (λ w m. g .whole w (mem-left (h .landed) w m))
+
+  holds : storeAfterCut new h ≡ carriedOut (hasLanded new h) (h .accepted) (h .opening)
+  unfolding storeAfterCut
+  holds =
+      view-same (storeAfterCut new h) (carriedOut (hasLanded new h) (h .accepted) (h .opening))
+      (length-written (onStore new h) (h .opening) ∙ g .opening-whole) (length-carried (hasLanded new h) (h .accepted) (h .opening) ∙ g .opening-whole)
+      (λ b i. cut-seen b i ∙ safe .holds b i ∙ sym (view-carried (hasLanded new h) (landed new (radio.world h)) (h .opening) (g .opening-whole) b i (h .accepted) landed-agrees (g .within)))
+
+  asked : (y x : Accepted) → AskedFor h y x → world.Asked (radio.world h) (plain y) (plain x)
+  asked y x a = record {
+    earlier = earlier-of (h .table .first) (h .accepted) y x (g .numbers) (a .accepted) (a .before) (g .older y (a .accepted) (x .number) (a .named));
+    asks = record { asker = y; accepted = a .accepted; is = refl; named = a .named };
+  }
+
+  follows : (y x : Accepted) → Follows h y x → world.Follows (radio.world h) (plain y) (plain x)
+  follows y x (Follows.straight a) = world.Follows.straight (asked y x a)
+  follows y x (Follows.through {z = z} a f) = world.Follows.through (asked y z a) (follows z x f)
+
+  ends : (y x : Accepted) → Follows h y x → List·Memᴰ y (h .accepted) × List·Memᴰ x (h .accepted)
+  ends y x (Follows.straight a) = (a .accepted, a .before)
+  ends y x (Follows.through {z = z} a f) = (a .accepted, ends z x f .1)
+
+  pub good-safe : CutSafe h new
+  good-safe = record {
+    holds = holds;
+    closed = λ y x e f.
+        let m = ends y x f in
+        landed-agrees x (m .1) ∙ safe .closed (plain y) (plain x) (sym (landed-agrees y (m .0)) ∙ e) (follows y x f);
+  }

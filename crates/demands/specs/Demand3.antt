@@ -1,0 +1,54 @@
+-- Demand 3: what the store holds if the supply is cut at an arbitrary moment.
+use Prim.Native.Nat.{ℕ}
+use mathlib.Core.Path.{_≡_}
+use mathlib.Core.Bool.{Bool, true, false, cond, _||_}
+use mathlib.Core.List.{List, [], _∷_, _++_, List·Memᴰ}
+use Rattle.spans.specs.Spans.{splice}
+use Rattle.rules.specs.Sizes.{blockStart}
+use Rattle.rules.specs.Create.{Change, isIn, changed}
+use Rattle.demands.specs.History.{History, Accepted, Sent, those}
+
+-- the store once writes are there, each block wholly new; the newest write is first in the list
+unfoldable pub written : List Sent → List ℕ → List ℕ
+written [] store = store
+written (w ∷ older) store = splice (written older store) (blockStart (w .block)) (w .bytes)
+
+-- the writes that are on the store after a cut: those that had landed, and of those in flight any that the cut lets be; `new b` says whether block b's is there
+unfoldable pub onStore : (ℕ → Bool) → History → List Sent
+onStore new h = those (λ w. new (w .block)) (h .inFlight) ++ h .landed
+
+-- the store after the cut: every other block in flight is wholly old
+unfoldable pub storeAfterCut : (ℕ → Bool) → History → List ℕ
+storeAfterCut new h = written (onStore new h) (h .opening)
+
+-- a number that one of the writes sent
+unfoldable pub sentIn : ℕ → List Sent → Bool
+sentIn n [] = false
+sentIn n (w ∷ older) = isIn n (w .numbers) || sentIn n older
+
+-- the change is landed: a write that is on the store sent its number
+unfoldable pub hasLanded : (ℕ → Bool) → History → Accepted → Bool
+hasLanded new h a = sentIn (a .number) (onStore new h)
+
+-- those changes of a list, newest first, that pass the test carried out singly, in the order accepted
+unfoldable pub carriedOut : (Accepted → Bool) → List Accepted → List ℕ → List ℕ
+carriedOut test [] store = store
+carriedOut test (a ∷ older) store = let before = carriedOut test older store in cond (test a) (changed before (a .change)) before
+
+-- y asked to have x before it: both were accepted, and y's caller named x's number
+pub record AskedFor (h : History) (y x : Accepted) : Type 0 where
+  pub accepted : List·Memᴰ y (h .accepted)
+  pub before : List·Memᴰ x (h .accepted)
+  pub named : isIn (x .number) (y .change .named) ≡ true
+
+-- straight or through others
+pub data Follows (h : History) : Accepted → Accepted → Type 0 where
+  straight : {y x : Accepted} → AskedFor h y x → Follows h y x
+  through : {y z x : Accepted} → AskedFor h y z → Follows h z x → Follows h y x
+
+-- the cut did no harm
+pub record CutSafe (h : History) (new : ℕ → Bool) : Type 0 where
+  -- the store is the opening with the landed changes carried out singly in accepted order, byte for byte
+  pub holds : storeAfterCut new h ≡ carriedOut (hasLanded new h) (h .accepted) (h .opening)
+  -- and what a landed change asked to have before it, straight or through others, is landed too
+  pub closed : (y x : Accepted) → hasLanded new h y ≡ true → Follows h y x → hasLanded new h x ≡ true

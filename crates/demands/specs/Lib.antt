@@ -1,0 +1,3 @@
+-- Histories of calls, what a cut leaves of them, and the two questions.
+pub mod History
+pub mod Demand3
