@@ -28,7 +28,7 @@ use Rattle.cut.proofs.Core.{step-keeps}
 use Rattle.demands.specs.History.{History, Accepted, Sent, those}
 use Rattle.demands.specs.Demand3.{written, sentIn}
 use Rattle.demands.proofs.Views.{view}
-use Rattle.demands.proofs.Notes.{AllWhole, some-written, written-alike, sent-in-both, sent-in-those, of-those, mem-left, mem-right, mem-either}
+use Rattle.demands.proofs.Notes.{AllWhole, some-written, written-alike, sent-in-both, sent-in-those, of-those, mem-left, mem-right, mem-either, times-both, times-parted}
 use Rattle.demands.proofs.Lookup.{carries, slotOf, carries-used, carries-number, carries-of, at-slot, slot-carries, no-slot, nowhere}
 use Rattle.demands.proofs.Radio.{stateWord, isSoft, stateAt, softAt, roomAt, Tied, plain, roomByte, oldByte, world, Same, isDone, isOut, Good}
 use Rattle.demands.proofs.Create.{of-log, number-one}
@@ -281,5 +281,8 @@ module _ (h : History) (g : Good h) (b : ℕ) where
         ∙ out-after (stateAt ss (slotOf ss (a .number))) (eqb (a .change .block) b) (stateAt ss′ (slotOf ss′ (a .number))) (state-after a m);
     whole = λ w m. g .whole w (noted w m);
     sent = λ w m n f. g .sent w (noted w m) n f;
+    some = λ w m. g .some w (noted w m);
+    once = λ n.
+        omega (arith, times-both n elsewhere (to-it ++ h .landed), times-both n to-it (h .landed), times-parted n (λ w. eqb (w .block) b) (h .inFlight), times-both n (h .inFlight) (h .landed), g .once n);
     safe = step-keeps (Step.lands b lands) (g .safe);
   }

@@ -415,5 +415,7 @@ module _ (h : History) (g : Good h) (c : create.Change) (j : ℕ) (k : Hold) (lo
     out = noted isOut refl (h .inFlight) (λ w m. mem-left (h .landed) w m) (g .out);
     whole = g .whole;
     sent = λ w m n f. let a = g .sent w m n f in (a .0, List·Memᴰ·tail (a .1), a .2, a .3);
+    some = g .some;
+    once = g .once;
     safe = step-keeps (Step.accepts (plain new) created) (g .safe);
   }

@@ -23,7 +23,7 @@ use Rattle.rules.proofs.SoundCalls.{granted-valid, open-sound}
 use Rattle.cut.specs.World.{Opened}
 use Rattle.cut.proofs.Core.{open-invariant}
 use Rattle.demands.specs.History.{History, Call, Happened, begun, afterCreate, afterWrite, afterComplete}
-use Rattle.demands.specs.Demand3.{written, sentIn}
+use Rattle.demands.specs.Demand3.{written, timesSent}
 use Rattle.demands.proofs.Views.{view}
 use Rattle.demands.proofs.Radio.{world, Good}
 use Rattle.demands.proofs.Create.{created-good}
@@ -43,7 +43,7 @@ opened-at n o p = go (ℕ-discrete (plainNumber (o .answer)) 0)
     go (no d) = (1, ap (λ (x : Opening). x .table) (p .refusal d))
 
 begun-good : (n : ℕ) (o : Opening) (store undo : List ℕ) → Opens n o → length store ≡ imageBytes → Good (begun o store undo)
-unfolding begun written
+unfolding begun written timesSent
 begun-good n o store undo p e = record {
   sound = open-sound n o p;
   counted = let m = opened-at n o p in let f : o .table .first ≡ m .0 = ap (λ (t : Table). t .first) (m .1) in let x : o .table .next ≡ m .0 = ap (λ (t : Table). t .next) (m .1) in omega arith;
@@ -57,6 +57,8 @@ begun-good n o store undo p e = record {
   out = λ a m. absurd (List·Memᴰ·not-nil m);
   whole = λ w m. absurd (List·Memᴰ·not-nil m);
   sent = λ w m. absurd (List·Memᴰ·not-nil m);
+  some = λ w m. absurd (List·Memᴰ·not-nil m);
+  once = λ n. omega arith;
   safe = open-invariant (record { store = λ b i. refl; sent = λ b i. refl; working = λ b i. refl; log = refl });
 }
 

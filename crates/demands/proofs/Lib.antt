@@ -8,4 +8,8 @@ pub mod Complete
 pub mod Write
 pub mod Histories
 pub mod Safe
+pub mod Besides
 pub mod Demand3
+pub mod Reach
+pub mod QuestionFour
+pub mod QuestionSeven

@@ -16,7 +16,7 @@ use Rattle.rules.specs.Create.{isIn}
 use Rattle.cut.specs.Changes.{Store, Change, covers, carryOut}
 use Rattle.cut.proofs.Facts.{carry-same, carry-inside, carry-outside}
 use Rattle.demands.specs.History.{Sent, those}
-use Rattle.demands.specs.Demand3.{written, sentIn}
+use Rattle.demands.specs.Demand3.{written, sentIn, timesIn, timesSent}
 use Rattle.demands.proofs.Views.{view, view-splice, Within, covers-of, inside-of}
 
 -- a write is a change of all its block's bytes
@@ -155,3 +155,39 @@ pub mem-either : (a b : List Sent) (w : Sent) → List·Memᴰ w (a ++ b) → Li
 mem-either [] b w m = inr m
 mem-either (x ∷ a) b w (List·Memᴰ·head e) = inl (List·Memᴰ·head e)
 mem-either (x ∷ a) b w (List·Memᴰ·tail m) = ⊎-elim (λ k. inl (List·Memᴰ·tail k)) (λ k. inr k) (mem-either a b w m)
+
+-- ---- how often a number was sent
+
+pub not-in-none : (n : ℕ) (l : List ℕ) → isIn n l ≡ false → timesIn n l ≡ 0
+unfolding isIn timesIn
+not-in-none n [] e = refl
+not-in-none n (m ∷ l) e = go (eqb n m) (isIn n l) e (λ f. not-in-none n l f)
+  where
+    go : (a b : Bool) → (a || b) ≡ false → (b ≡ false → timesIn n l ≡ 0) → cond a 1 0 + timesIn n l ≡ 0
+    go false b q f = let z = f q in omega arith
+    go true b q f = absurd (clash refl q)
+
+pub not-sent-none : (n : ℕ) (ws : List Sent) → sentIn n ws ≡ false → timesSent n ws ≡ 0
+unfolding sentIn timesSent
+not-sent-none n [] e = refl
+not-sent-none n (w ∷ ws) e = go (isIn n (w .numbers)) refl (sentIn n ws) e (λ f. not-sent-none n ws f)
+  where
+    go : (a : Bool) → isIn n (w .numbers) ≡ a → (b : Bool) → (a || b) ≡ false → (b ≡ false → timesSent n ws ≡ 0) → timesIn n (w .numbers) + timesSent n ws ≡ 0
+    go false p b q f = let z = f q in omega (arith, not-in-none n (w .numbers) p)
+    go true p b q f = absurd (clash refl q)
+
+pub times-both : (n : ℕ) (a b : List Sent) → timesSent n (a ++ b) ≡ timesSent n a + timesSent n b
+unfolding timesSent
+times-both n [] b = omega arith
+times-both n (w ∷ a) b = omega (arith, times-both n a b)
+
+-- a list of writes parted by a test
+pub times-parted : (n : ℕ) (test : Sent → Bool) (ws : List Sent) → timesSent n (those (λ w. not (test w)) ws) + timesSent n (those test ws) ≡ timesSent n ws
+unfolding timesSent those
+times-parted n test [] = refl
+times-parted n test (w ∷ ws) = go (test w) (times-parted n test ws)
+  where
+    go : (v : Bool) → timesSent n (those (λ w. not (test w)) ws) + timesSent n (those test ws) ≡ timesSent n ws
+        → timesSent n (cond (not v) (w ∷ those (λ w. not (test w)) ws) (those (λ w. not (test w)) ws)) + timesSent n (cond v (w ∷ those test ws) (those test ws)) ≡ timesIn n (w .numbers) + timesSent n ws
+    go true ih = omega arith
+    go false ih = omega arith

@@ -21,7 +21,7 @@ use Rattle.cut.specs.Changes.{Store, Change}
 use Rattle.cut.specs.World.{World, State, waiting, inFlight, committed}
 use Rattle.cut.proofs.Invariant.{Invariant}
 use Rattle.demands.specs.History.{History, Accepted, Sent}
-use Rattle.demands.specs.Demand3.{written, sentIn}
+use Rattle.demands.specs.Demand3.{written, sentIn, timesSent}
 use Rattle.demands.proofs.Views.{view, Within}
 use Rattle.demands.proofs.Notes.{Whole, AllWhole}
 use Rattle.demands.proofs.Lookup.{carries, slotOf}
@@ -147,5 +147,8 @@ pub record Good (h : History) : Type 0 where
   -- a write is a whole block, and every number it sent is an accepted change of that block: write
   pub whole : AllWhole (h .inFlight ++ h .landed)
   pub sent : (w : Sent) → List·Memᴰ w (h .inFlight ++ h .landed) → (n : ℕ) → isIn n (w .numbers) ≡ true → (a : Accepted) × List·Memᴰ a (h .accepted) × (a .number ≡ n) × (a .change .block ≡ w .block)
+  -- a write sent something, and no number was sent twice: write
+  pub some : (w : Sent) → List·Memᴰ w (h .inFlight ++ h .landed) → (n : ℕ) × (isIn n (w .numbers) ≡ true)
+  pub once : (n : ℕ) → timesSent n (h .inFlight ++ h .landed) ≤ 1
   -- what a cut may leave is safe: the world's invariant
   pub safe : Invariant (view (h .opening)) (world h)

@@ -27,7 +27,7 @@ use Rattle.demands.proofs.Radio as radio
 use Rattle.demands.proofs.Create.{number-below, number-one}
 
 -- the changes that pass a test carried out on an image, seen byte by byte
-length-carried : (test : Accepted → Bool) (l : List Accepted) (store : List ℕ) → length (carriedOut test l store) ≡ length store
+pub length-carried : (test : Accepted → Bool) (l : List Accepted) (store : List ℕ) → length (carriedOut test l store) ≡ length store
 unfolding carriedOut changed
 length-carried test [] store = refl
 length-carried test (a ∷ l) store = go (test a) ∙ length-carried test l store

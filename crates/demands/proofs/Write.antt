@@ -36,9 +36,9 @@ use Rattle.cut.proofs.Facts.{newer-in, older-in, same-or-other, carry-inside, c
 use Rattle.cut.proofs.Invariant.{waits-not-done}
 use Rattle.cut.proofs.Core.{step-keeps}
 use Rattle.demands.specs.History.{History, Accepted, Sent, numbersBelow}
-use Rattle.demands.specs.Demand3.{written, sentIn}
+use Rattle.demands.specs.Demand3.{written, sentIn, timesIn, timesSent}
 use Rattle.demands.proofs.Views.{view, view-in, view-past, Within, covers-of, inside-of}
-use Rattle.demands.proofs.Notes.{Whole, whole, view-written}
+use Rattle.demands.proofs.Notes.{Whole, whole, view-written, not-in-none, not-sent-none, times-both}
 use Rattle.demands.proofs.Lookup.{carries, slotOf, carries-used, carries-number, carries-of, at-slot, slot-carries, slot-same, nowhere}
 use Rattle.demands.proofs.Radio.{stateWord, isSoft, stateAt, softAt, roomAt, Tied, plain, roomByte, room-byte, oldByte, world, Same, Numbered, isDone, isOut, Good}
 use Rattle.demands.proofs.Create.{number-below, number-one, of-log, soft-room}
@@ -124,7 +124,7 @@ goAt s none = false
 goAt s (some j) = has s j
 
 -- each issued number is an accepted change's
-numbered : (first : ℕ) (l : List Accepted) (n : ℕ) → Numbered first l → first ≤ n → n < first + length l → (a : Accepted) × List·Memᴰ a l × (a .number ≡ n)
+pub numbered : (first : ℕ) (l : List Accepted) (n : ℕ) → Numbered first l → first ≤ n → n < first + length l → (a : Accepted) × List·Memᴰ a l × (a .number ≡ n)
 numbered first [] n q l m = absurd (omega arith)
 numbered first (a ∷ l) n q low high = go (same-or-other n (first + length l)) (λ p. numbered first l n (q .1) low p)
   where
@@ -534,6 +534,48 @@ module _ (h : History) (g : Good h) (b s : ℕ) (is-block : b < blocks) (undo-wh
       let c = g .link a m i l (sym (carries-same (a .number) i l) ∙ f) in
       record { block = k .block ∙ c .block; offset = k .offset ∙ c .offset; len = k .len ∙ c .len }
 
+  some′ : (w : Sent) → List·Memᴰ w (writ ∷ (h .inFlight ++ h .landed)) → (n : ℕ) × (isIn n (w .numbers) ≡ true)
+  some′ w (List·Memᴰ·head e) =
+      let i = some-goes .0 in
+      (slotAt ss i .number, subst (λ (x : Sent). isIn (slotAt ss i .number) (x .numbers) ≡ true) (sym e) (in-numbers ss s (slotAt ss i .number) slots i (has-slot s i (may .set) (some-goes .1)) (some-goes .1) refl))
+  some′ w (List·Memᴰ·tail m) = g .some w m
+
+  -- a slot's number stands once among the numbers sent
+  times-below : (n k : ℕ) → k ≤ slots → (timesIn n (numbersBelow ss s k) ≤ 1) × ((i : ℕ) → i < slots → k ≤ i → has s i ≡ true → slotAt ss i .number ≡ n → timesIn n (numbersBelow ss s k) ≡ 0)
+  unfolding timesIn numbersBelow
+  times-below n zero l = (omega arith, λ i q p e f. refl)
+  times-below n (suc k) l = go (has s k) refl (eqb n (slotAt ss k .number)) refl (times-below n k (omega arith))
+    where
+      apart : (i : ℕ) → i < slots → has s i ≡ true → has s k ≡ true → slotAt ss i .number ≡ n → slotAt ss k .number ≡ n → i ≡ k
+      apart i q e f p r =
+          let wi = and-true (isWaiting (slotAt ss i .state)) _ (may .within i e) in
+          let wk = and-true (isWaiting (slotAt ss k .state)) _ (may .within k f) in
+          g .sound .numbers-differ i k q (omega arith) (waiting-used (slotAt ss i .state) (wi .0)) (waiting-used (slotAt ss k .state) (wk .0)) (p ∙ sym r)
+
+      go : (v : Bool) → has s k ≡ v → (u : Bool) → eqb n (slotAt ss k .number) ≡ u
+          → (timesIn n (numbersBelow ss s k) ≤ 1) × ((i : ℕ) → i < slots → k ≤ i → has s i ≡ true → slotAt ss i .number ≡ n → timesIn n (numbersBelow ss s k) ≡ 0)
+          → (timesIn n (cond v (slotAt ss k .number ∷ numbersBelow ss s k) (numbersBelow ss s k)) ≤ 1)
+          × ((i : ℕ) → i < slots → suc k ≤ i → has s i ≡ true → slotAt ss i .number ≡ n → timesIn n (cond v (slotAt ss k .number ∷ numbersBelow ss s k) (numbersBelow ss s k)) ≡ 0)
+      go false p u q ih = (ih .0, λ i m o e f. ih .1 i m (omega arith) e f)
+      go true p false q ih = let few = ih .0 in (rw q (omega arith), λ i m o e f. let none = ih .1 i m (omega arith) e f in rw q (omega arith))
+      go true p true q ih =
+          let here : slotAt ss k .number ≡ n = sym (eqb-true n (slotAt ss k .number) q) in
+          let none = ih .1 k (omega arith) (omega arith) p here in
+          (rw q (omega arith), λ i m o e f. let z = apart i m e p f here in absurd (omega arith))
+
+  once′ : (n : ℕ) → timesSent n (writ ∷ (h .inFlight ++ h .landed)) ≤ 1
+  unfolding timesSent
+  once′ n = go (true-or-false (isIn n (writ .numbers)))
+    where
+      go : (isIn n (writ .numbers) ≡ true) ⊎ (isIn n (writ .numbers) ≡ false) → timesIn n (writ .numbers) + timesSent n (h .inFlight ++ h .landed) ≤ 1
+      go (inr e) = omega (arith, not-in-none n (writ .numbers) e, g .once n)
+      go (inl e) =
+          let a = sender-known n e in
+          let st = members (a .0) (a .1) (sym (sent-goes (a .0)) ∙ ap (λ (x : ℕ). isIn x (writ .numbers)) (a .2) ∙ e) .0 in
+          let out : sentIn n (h .inFlight) ≡ false = ap (λ (x : ℕ). sentIn x (h .inFlight)) (sym (a .2)) ∙ g .out (a .0) (a .1) ∙ ap isOut st in
+          let done : sentIn n (h .landed) ≡ false = ap (λ (x : ℕ). sentIn x (h .landed)) (sym (a .2)) ∙ g .done (a .0) (a .1) ∙ ap isDone st in
+          omega (arith, times-below n slots (omega arith) .0, times-both n (h .inFlight) (h .landed), not-sent-none n (h .inFlight) out, not-sent-none n (h .landed) done)
+
   pub gone-good : Good gone
   unfolding sentIn
   gone-good = record {
@@ -549,5 +591,7 @@ module _ (h : History) (g : Good h) (b s : ℕ) (is-block : b < blocks) (undo-wh
     out = λ a m. ap₂ (λ (x y : Bool). x || y) (sent-goes a) (g .out a m) ∙ noted isOut refl refl a m (goes (plain a)) refl;
     whole = whole′;
     sent = sent′;
+    some = some′;
+    once = once′;
     safe = step-keeps (Step.sends b goes sends) (g .safe);
   }

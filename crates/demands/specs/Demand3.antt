@@ -1,11 +1,14 @@
 -- Demand 3: what the store holds if the supply is cut at an arbitrary moment.
-use Prim.Native.Nat.{ℕ}
+use Prim.Native.Nat.{ℕ, _+_, _≤_}
 use mathlib.Core.Path.{_≡_}
 use mathlib.Core.Bool.{Bool, true, false, cond, _||_}
 use mathlib.Core.List.{List, [], _∷_, _++_, List·Memᴰ}
+use lib.Dec.{eqb}
 use Rattle.spans.specs.Spans.{splice}
+use Rattle.rules.specs.declared.AskAnswer.the-variants as ask
 use Rattle.rules.specs.Sizes.{blockStart}
 use Rattle.rules.specs.Create.{Change, isIn, changed}
+use Rattle.rules.specs.Calls.{Writing, Writes, writeNumber, Asks}
 use Rattle.demands.specs.History.{History, Accepted, Sent, those}
 
 -- the store once writes are there, each block wholly new; the newest write is first in the list
@@ -52,3 +55,25 @@ pub record CutSafe (h : History) (new : ℕ → Bool) : Type 0 where
   pub holds : storeAfterCut new h ≡ carriedOut (hasLanded new h) (h .accepted) (h .opening)
   -- and what a landed change asked to have before it, straight or through others, is landed too
   pub closed : (y x : Accepted) → hasLanded new h y ≡ true → Follows h y x → hasLanded new h x ≡ true
+
+-- how often a number stands in a list, and how often it was sent
+unfoldable pub timesIn : ℕ → List ℕ → ℕ
+timesIn n [] = 0
+timesIn n (m ∷ l) = cond (eqb n m) 1 0 + timesIn n l
+
+unfoldable pub timesSent : ℕ → List Sent → ℕ
+timesSent n [] = 0
+timesSent n (w ∷ ws) = timesIn n (w .numbers) + timesSent n ws
+
+-- beside it, so that nothing is won by forgetting: the notes are true
+pub record NotesTrue (h : History) : Type 0 where
+  -- every number sent is that of an accepted change of the write's block
+  pub known : (w : Sent) → List·Memᴰ w (h .inFlight ++ h .landed) → (n : ℕ) → isIn n (w .numbers) ≡ true
+      → (a : Accepted) × List·Memᴰ a (h .accepted) × (a .number ≡ n) × (a .change .block ≡ w .block)
+  -- and it was sent once
+  pub once : (n : ℕ) → timesSent n (h .inFlight ++ h .landed) ≤ 1
+  -- a granted write finds nothing in flight to its block
+  pub alone : (b : ℕ) (lent : List ℕ) (o : Writing) → Writes (h .table) (h .image) (h .undo) lent b o → writeNumber (o .answer) ≡ 0
+      → (w : Sent) → List·Memᴰ w (h .inFlight) → w .block ≡ b → ⊥
+  -- a number that ask calls committed is a landed one
+  pub committed : (n : ℕ) → Asks (h .table) n ask.Committed → sentIn n (h .landed) ≡ true

@@ -1,0 +1,6 @@
+-- QUESTION FOUR. Only states and cites.
+use Rattle.demands.specs.QuestionFour.{QuestionFour}
+use Rattle.demands.proofs.Demand3.{demand-3, notes-true}
+
+pub question-four : QuestionFour
+question-four = record { at-any-cut = λ h w new. demand-3 w new; by-true-notes = λ h w. notes-true w }
