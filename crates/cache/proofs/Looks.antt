@@ -1,25 +1,21 @@
 -- Open, ask and count: each answer from the facts that the code has found where it returns it.
 use Prim.Native.Nat.{ℕ, _≤_, _<_}
 use mathlib.Core.Path.{_≡_, refl}
-use mathlib.Core.Logic.{_⊎_, inl, inr, ⊎-elim}
 use native.Mathlib.Omega.{arith}
 use Rattle.rules.specs.declared.AskAnswer.{AskAnswer}
 use Rattle.rules.specs.declared.AskAnswer.the-variants as ask
 use Rattle.rules.specs.declared.CountAnswer.the-variants as count
-use Rattle.rules.specs.Sizes.{blocks, lastNumber}
+use Rattle.rules.specs.Sizes.{blocks}
 use Rattle.rules.specs.Table.{Table, Sound, Issued}
 use Rattle.rules.specs.Ask.{Asked}
 use Rattle.rules.specs.Count.{waitingOn}
 use Rattle.rules.specs.Refusals.{NoFirst}
-use Rattle.rules.specs.Calls.{Opens, openRefused, openGranted, Asks, askNumber, Counts}
+use Rattle.rules.specs.Calls.{Opens, openRefused, Asks, askNumber, Counts}
 use Rattle.rules.proofs.Cases.{holds, passes, none-holds}
 use Rattle.rules.proofs.Outcomes.{refuses, grants}
 
 pub open-no-first : (n : ℕ) → NoFirst n → Opens n (openRefused 15)
 open-no-first n h = refuses 15 (holds h) refl (λ e. omega arith)
-
-pub open-granted : (n : ℕ) → (n ≡ 0 → ⊥) → n ≤ lastNumber → Opens n (openGranted n)
-open-granted n d l = grants (openGranted n) (passes (⊎-elim d (λ m. omega arith)) none-holds) refl refl
 
 module _ (t : Table) (n : ℕ) where
   pub ask-unsound : (Sound t → ⊥) → Asks t n (ask.Refused 2)

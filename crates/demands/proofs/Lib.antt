@@ -13,3 +13,4 @@ pub mod Demand3
 pub mod Reach
 pub mod QuestionFour
 pub mod QuestionSeven
+pub mod Example

@@ -20,7 +20,7 @@ use Rattle.rules.specs.Table.{Table, slotAt, fliesOn, waitsOn, Sound}
 use Rattle.rules.specs.Create.{Change, Lowest, FreeSlot, HoldOf, changed, kept}
 use Rattle.rules.specs.Write.{MayGo, Largest}
 use Rattle.rules.specs.Refusals.{First, NoRoom, createCases, writeCases, completeCases}
-use Rattle.rules.specs.Calls.{Creation, Creates, createGranted, createRefused, Writing, Writes, writeGranted, writeRefused, Completion, Completes, completeGranted}
+use Rattle.rules.specs.Calls.{Opens, openGranted, Creation, Creates, createGranted, createRefused, Writing, Writes, writeGranted, writeRefused, Completion, Completes, completeGranted}
 use Rattle.rules.specs.Rows.{Radio}
 use Rattle.rules.proofs.Cases.{holds, passes, none-holds}
 use Rattle.rules.proofs.Outcomes.{refuses, grants}
@@ -55,6 +55,10 @@ Done r b = Completes (r .table) b (completeGranted (r .table) b) × Good (afterC
 -- a refused write
 abbrev pub Stayed : Radio → List ℕ → ℕ → ℕ → Type 0
 Stayed r lent b k = Writes (r .table) (r .image) (r .undo) lent b (writeRefused (r .table) (r .image) (r .undo) lent k)
+
+-- a granted open
+pub open-row : (n : ℕ) → (n ≡ 0 → ⊥) → n ≤ lastNumber → Opens n (openGranted n)
+open-row n d l = grants (openGranted n) (passes (⊎-elim d (λ m. omega arith)) none-holds) refl refl
 
 -- ---- create
 

@@ -9,7 +9,8 @@ use Rattle.rules.specs.declared.Answer.the-variants as answer
 use Rattle.rules.specs.Table as rules
 use Rattle.rules.specs.Open.{opened}
 use Rattle.rules.specs.Calls.{Opens, Opening}
-use Rattle.cache.proofs.Looks.{open-no-first, open-granted}
+use Rattle.rules.proofs.Steps.{open-row}
+use Rattle.cache.proofs.Looks.{open-no-first}
 use Rattle.cache.proofs.Table.open.Statement.{statement}
 use Rattle.cache.proofs.Table.open.Tie as tie
 
@@ -33,7 +34,7 @@ empty-requires-3 : tie.Need-empty-requires-3
 empty-requires-3 c κs = search needs
 
 returns-3 : tie.Need-returns-3
-returns-3 c = let n = c .before .before .before .args .first in made n answer.Granted _ (opened n) (c .empty3 .ensures) (open-granted n (c .before .before .if1 .left) (c .before .if2 .left))
+returns-3 c = let n = c .before .before .before .args .first in made n answer.Granted _ (opened n) (c .empty3 .ensures) (open-row n (c .before .before .if1 .left) (c .before .if2 .left))
 
 pub open-spec : {M : Type 1} → statement M
 open-spec = tie.close (tie.spec empty-requires returns empty-requires-2 returns-2 empty-requires-3 returns-3)
