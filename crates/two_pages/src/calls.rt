@@ -1,0 +1,140 @@
+// A call and its line: the row, what the call takes, and its whole answer.
+use crate::say;
+use cache::Table;
+use rules::Answer;
+use rules::CreateAnswer;
+use rules::Hold;
+use rules::State;
+use rules::WriteAnswer;
+
+fn refused(k: u32) {
+    say::field(b"refused ", k);
+}
+
+fn hold(h: Hold) {
+    match h {
+        Hold::Hard => say::text(b" hard"),
+        Hold::Soft(r) => say::field(b" soft room ", r),
+    }
+}
+
+fn granted_or(a: Answer) {
+    match a {
+        Answer::Granted => say::text(b"granted"),
+        Answer::Refused(k) => refused(k),
+    }
+}
+
+pub fn open(row: &[u8], first: u32) -> Table {
+    let o = Table::open(first);
+    let answer = o.answer;
+    let table = o.table;
+    say::text(row);
+    say::field(b" open first ", first);
+    say::text(b": ");
+    granted_or(answer);
+    say::field(b" first ", table.first);
+    say::field(b" next ", table.next);
+    say::text(b"\n");
+    table
+}
+
+fn created(a: CreateAnswer) {
+    match a {
+        CreateAnswer::Granted(n, h) => {
+            say::field(b"number ", n);
+            hold(h);
+        }
+        CreateAnswer::Refused(k) => refused(k),
+    }
+}
+
+fn after(named: &[u32]) {
+    if named.len() != 0 {
+        say::text(b" after");
+        say::numbers(named);
+    }
+}
+
+pub fn create(
+    t: Table,
+    image: &mut [u8; 16384],
+    undo: &mut [u8; 1024],
+    row: &[u8],
+    block: u32,
+    offset: u32,
+    bytes: &[u8],
+    named: &[u32],
+) -> Table {
+    let o = t.create(image, undo, block, offset, bytes, named);
+    let answer = o.answer;
+    let table = o.table;
+    say::text(row);
+    say::field(b" create block ", block);
+    say::field(b" offset ", offset);
+    say::length(bytes);
+    after(named);
+    say::text(b": ");
+    created(answer);
+    say::text(b"\n");
+    table
+}
+
+fn sent(a: WriteAnswer) {
+    match a {
+        WriteAnswer::Granted(set) => {
+            say::text(b"slots");
+            say::set(set);
+        }
+        WriteAnswer::Refused(k) => refused(k),
+    }
+}
+
+// The block lent holds 9s, and a refusal leaves it so.
+pub fn write(t: Table, image: &[u8; 16384], undo: &[u8; 1024], row: &[u8], block: u32) -> Table {
+    let mut handed = [9u8; 256];
+    let o = t.write(image, undo, &mut handed, block);
+    let answer = o.answer;
+    let table = o.table;
+    say::text(row);
+    say::field(b" write block ", block);
+    say::text(b": ");
+    sent(answer);
+    say::text(b";");
+    say::runs(&handed);
+    say::text(b"\n");
+    table
+}
+
+pub fn complete(t: Table, row: &[u8], block: u32) -> Table {
+    let o = t.complete(block);
+    let answer = o.answer;
+    let table = o.table;
+    say::text(row);
+    say::field(b" complete block ", block);
+    say::text(b": ");
+    granted_or(answer);
+    say::text(b"\n");
+    table
+}
+
+fn state(u: State) {
+    match u {
+        State::Free => say::text(b" free"),
+        State::Waiting(h) => {
+            say::text(b" waiting");
+            hold(h);
+        }
+        State::InFlight(_) => say::text(b" in flight"),
+    }
+}
+
+// No call: the patch in slot 3, as the table has it.
+pub fn slot_3(t: Table, row: &[u8]) {
+    let s = t.slots[3];
+    let u = s.state;
+    say::text(row);
+    say::field(b" slot 3: number ", s.number);
+    state(u);
+    say::text(b"\n");
+}

@@ -1,0 +1,18 @@
+// Document 01's examples, run: the session of two pages, its branch and the edges. Each call's
+// whole answer is a line on standard output, to be read beside the paper; `stdout` beside src/ is
+// what it must write.
+mod calls;
+mod edges;
+mod pages;
+mod say;
+
+fn main() {
+    let mut image = [0u8; 16384];
+    // The undo area holds what it may. 7s show an old byte that was taken from anywhere but a kept room.
+    let mut undo = [7u8; 1024];
+    pages::session(&mut image, &mut undo);
+    edges::ranges(&mut image, &mut undo);
+    edges::last_number(&mut image, &mut undo);
+    edges::slots(&mut image, &mut undo);
+    edges::rooms(&mut image, &mut undo);
+}

@@ -1,0 +1,89 @@
+// Words, numbers and bytes on standard output.
+ghost use Prim.Native.Nat.{_+_, _≤_, _<_};
+ghost use lib.ListN.{length};
+use libc::STDOUT_FILENO;
+
+pub fn text(words: &[u8]) {
+    io::write_all(STDOUT_FILENO, words);
+}
+
+pub fn number(n: u32) {
+    io::print_decimal(STDOUT_FILENO, n as u64);
+}
+
+// Words and the number after them.
+pub fn field(words: &[u8], n: u32) {
+    text(words);
+    number(n);
+}
+
+fn place(n: usize) {
+    io::print_decimal(STDOUT_FILENO, n as u64);
+}
+
+pub fn length(bytes: &[u8]) {
+    text(b" length ");
+    place(bytes.len());
+}
+
+// A member of a set after a space, or nothing.
+fn member(set: u64, i: usize) {
+    if masks::has(set, i) {
+        text(b" ");
+        place(i);
+    }
+}
+
+// The slots of a set, lowest first.
+pub fn set(set: u64) {
+    for i in 0..64 {
+        member(set, i);
+    }
+}
+
+fn after_space(n: u32) {
+    field(b" ", n);
+}
+
+// Numbers, each after a space.
+pub fn numbers(ns: &[u32]) {
+    for i in 0..ns.len() {
+        after_space(ns[i]);
+    }
+}
+
+// A run of n equal bytes, with a comma where more follow.
+fn run(n: usize, byte: u8, is_last: bool) {
+    text(b" ");
+    place(n);
+    field(b" of ", byte as u32);
+    if !is_last {
+        text(b",");
+    }
+}
+
+// The byte at i joins the n equal ones before it, and they are said where their run ends. What is
+// answered is how many are still to be said.
+fn pass(bytes: &[u8], i: usize, n: usize) -> usize
+    requires { ⌜ i < length (now bytes) ⌝ }
+    requires { ⌜ n ≤ i ⌝ }
+    ensures { λ r. ⌜ r ≤ i + 1 ⌝ }
+{
+    if i + 1 == bytes.len() {
+        run(n + 1, bytes[i], true);
+        return 0;
+    }
+    if bytes[i] != bytes[i + 1] {
+        run(n + 1, bytes[i], false);
+        return 0;
+    }
+    n + 1
+}
+
+// Bytes as runs of equal ones: 8 of 65, 248 of 0.
+pub fn runs(bytes: &[u8]) {
+    let mut n = 0;
+    for i in 0..bytes.len() {
+        n = pass(bytes, i, n);
+    }
+}
