@@ -27,8 +27,7 @@ use Rattle.demands.specs.Demand3.{sentIn, NotesTrue}
 use Rattle.demands.proofs.Notes.{mem-left}
 use Rattle.demands.proofs.Lookup.{slotOf, carries-used, carries-number, slot-carries, no-slot}
 use Rattle.demands.proofs.Radio.{stateWord, stateAt, plain, isDone, isOut, Good}
-use Rattle.demands.proofs.Create.{number-one}
-use Rattle.demands.proofs.Write.{numbered}
+use Rattle.demands.proofs.Numbers.{numbered}
 
 -- a write that is noted sent what it sent
 noted-sent : (n : ℕ) (ws : List Sent) (w : Sent) → List·Memᴰ w ws → isIn n (w .numbers) ≡ true → sentIn n ws ≡ true

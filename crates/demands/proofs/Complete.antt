@@ -31,7 +31,7 @@ use Rattle.demands.proofs.Views.{view}
 use Rattle.demands.proofs.Notes.{AllWhole, some-written, written-alike, sent-in-both, sent-in-those, of-those, mem-left, mem-right, mem-either, times-both, times-parted}
 use Rattle.demands.proofs.Lookup.{carries, slotOf, carries-used, carries-number, carries-of, at-slot, slot-carries, no-slot, nowhere}
 use Rattle.demands.proofs.Radio.{stateWord, isSoft, stateAt, softAt, roomAt, Tied, plain, roomByte, oldByte, world, Same, isDone, isOut, Good}
-use Rattle.demands.proofs.Create.{of-log, number-one}
+use Rattle.demands.proofs.Numbers.{on-log, sent-to}
 
 flying-settles : (u : rules.State) → isInFlight u ≡ true → committed ≡ settled (stateWord u)
 unfolding settled
@@ -195,9 +195,6 @@ module _ (h : History) (g : Good h) (b : ℕ) where
       by true e = store-now d i ∙ rw e
       by false e = written-alike (h .opening) (g .opening-whole) d i (h .inFlight) (to-it ++ h .landed) (h .landed) out-whole (store-now d i ∙ rw e)
 
-  on-log : (P : Change → Type 0) → ((a : Accepted) → List·Memᴰ a (h .accepted) → P (plain a)) → (x : Change) → List·Memᴰ x (map plain (h .accepted)) → P x
-  on-log P f x m = let r = of-log (h .accepted) x m in subst P (r .2) (f (r .0) (r .1))
-
   pub lands : Lands b (world h) (world landed)
   lands = record {
     bytes = λ i. store-now b i ∙ rw (eq-eqb b b refl);
@@ -205,19 +202,14 @@ module _ (h : History) (g : Good h) (b : ℕ) where
     sent = sent-now;
     working = λ d i. refl;
     log = refl;
-    itsState = on-log (λ x. x .block ≡ b → stateAt ss′ (slotOf ss′ (x .number)) ≡ settled (stateAt ss (slotOf ss (x .number)))) its-state;
-    otherState = on-log (λ x. x .block ≢ b → stateAt ss′ (slotOf ss′ (x .number)) ≡ stateAt ss (slotOf ss (x .number))) other-state;
+    itsState = on-log (h .accepted) (λ x. x .block ≡ b → stateAt ss′ (slotOf ss′ (x .number)) ≡ settled (stateAt ss (slotOf ss (x .number)))) its-state;
+    otherState = on-log (h .accepted) (λ x. x .block ≢ b → stateAt ss′ (slotOf ss′ (x .number)) ≡ stateAt ss (slotOf ss (x .number))) other-state;
     oldUndo = λ x m s. old-undo x s;
     oldTies = λ y x e m w d. old-ties (y .number) (x .number) w d;
     asks = λ y x e n. n;
   }
 
   -- ---- the notes
-
-  sent-here : (a : Accepted) → List·Memᴰ a (h .accepted) → (w : Sent) → List·Memᴰ w (h .inFlight) → isIn (a .number) (w .numbers) ≡ true → w .block ≡ a .change .block
-  sent-here a m w k f =
-      let r = g .sent w (mem-left (h .landed) w k) (a .number) f in
-      sym (r .3) ∙ ap (λ (x : Accepted). x .change .block) (number-one (h .table .first) (h .accepted) (r .0) a (g .numbers) (r .1) m (r .2))
 
   -- after the landing, by state and block
   done-after : (s : State) (e : Bool) (s′ : State) → s′ ≡ cond e (settled s) s → ((e && isOut s) || isDone s) ≡ isDone s′
@@ -272,11 +264,11 @@ module _ (h : History) (g : Good h) (b : ℕ) where
     opening-whole = g .opening-whole;
     done = λ a m.
         sent-in-both (a .number) to-it (h .landed)
-        ∙ ap (λ (x : Bool). x || sentIn (a .number) (h .landed)) (sent-in-those (λ d. eqb d b) (a .number) (a .change .block) (h .inFlight) (sent-here a m))
+        ∙ ap (λ (x : Bool). x || sentIn (a .number) (h .landed)) (sent-in-those (λ d. eqb d b) (a .number) (a .change .block) (h .inFlight) (sent-to h g a m))
         ∙ ap₂ (λ (x y : Bool). (eqb (a .change .block) b && x) || y) (g .out a m) (g .done a m)
         ∙ done-after (stateAt ss (slotOf ss (a .number))) (eqb (a .change .block) b) (stateAt ss′ (slotOf ss′ (a .number))) (state-after a m);
     out = λ a m.
-        sent-in-those (λ d. not (eqb d b)) (a .number) (a .change .block) (h .inFlight) (sent-here a m)
+        sent-in-those (λ d. not (eqb d b)) (a .number) (a .change .block) (h .inFlight) (sent-to h g a m)
         ∙ ap (λ (x : Bool). not (eqb (a .change .block) b) && x) (g .out a m)
         ∙ out-after (stateAt ss (slotOf ss (a .number))) (eqb (a .change .block) b) (stateAt ss′ (slotOf ss′ (a .number))) (state-after a m);
     whole = λ w m. g .whole w (noted w m);

@@ -37,6 +37,7 @@ use Rattle.demands.proofs.Views.{view, view-in, view-splice, Within, in
 use Rattle.demands.specs.Demand3.{sentIn}
 use Rattle.demands.proofs.Notes.{sender, mem-left, mem-right}
 use Rattle.demands.proofs.Lookup.{carries, slotOf, carries-used, carries-number, carries-of, Distinct, at-slot, slot-carries, slot-same}
+use Rattle.demands.proofs.Numbers.{number-below, of-log}
 use Rattle.demands.proofs.Radio.{stateWord, isSoft, stateAt, softAt, roomAt, Tied, plain, Names, roomByte, room-byte, rooms-alike, oldByte, world, Same, Numbered, isDone, isOut, Good}
 
 -- the slot n is the slot s, but that a soft patch may have turned hard
@@ -65,26 +66,6 @@ turned-kin hold.Hard b s = go (eqb (s .block) b)
     go : (e : Bool) → Kin (cond e (withState (turnedState (s .state)) s) s) s
     go true = record { used = at (s .state) .0; word = at (s .state) .1; soft = at (s .state) .2; number = refl; block = refl; offset = refl; len = refl; befores = refl }
     go false = kin-self s
-
--- accepted numbers are below next, and each issued number is an accepted change's
-pub number-below : (first : ℕ) (l : List Accepted) (x : Accepted) → Numbered first l → List·Memᴰ x l → x .number < first + length l
-number-below first (a ∷ l) x n (List·Memᴰ·head e) = let q : x .number ≡ first + length l = ap (λ (k : Accepted). k .number) e ∙ n .0 in omega arith
-number-below first (a ∷ l) x n (List·Memᴰ·tail m) = let q : x .number < first + length l = number-below first l x (n .1) m in omega arith
-
--- one change for each number
-pub number-one : (first : ℕ) (l : List Accepted) (x y : Accepted) → Numbered first l → List·Memᴰ x l → List·Memᴰ y l → x .number ≡ y .number → x ≡ y
-number-one first (a ∷ l) x y n (List·Memᴰ·head p) (List·Memᴰ·head q) e = p ∙ sym q
-number-one first (a ∷ l) x y n (List·Memᴰ·head p) (List·Memᴰ·tail k) e =
-    let z : x .number ≡ first + length l = ap (λ (w : Accepted). w .number) p ∙ n .0 in absurd (omega (arith, number-below first l y (n .1) k))
-number-one first (a ∷ l) x y n (List·Memᴰ·tail m) (List·Memᴰ·head q) e =
-    let z : y .number ≡ first + length l = ap (λ (w : Accepted). w .number) q ∙ n .0 in absurd (omega (arith, number-below first l x (n .1) m))
-number-one first (a ∷ l) x y n (List·Memᴰ·tail m) (List·Memᴰ·tail k) e = number-one first l x y (n .1) m k e
-
--- a change of the log is an accepted one
-pub of-log : (l : List Accepted) (x : Change) → List·Memᴰ x (map plain l) → (a : Accepted) × List·Memᴰ a l × (plain a ≡ x)
-of-log [] x m = elim m [ ]
-of-log (a ∷ l) x (List·Memᴰ·head e) = (a, List·Memᴰ·head refl, sym e)
-of-log (a ∷ l) x (List·Memᴰ·tail m) = let r = of-log l x m in (r .0, List·Memᴰ·tail (r .1), r .2)
 
 pub soft-room : (u : rules.State) → isSoft u ≡ true → u ≡ state.Waiting (hold.Soft (roomOf u))
 soft-room state.Free e = absurd (clash e refl)

@@ -3,6 +3,7 @@ pub mod Views
 pub mod Notes
 pub mod Lookup
 pub mod Radio
+pub mod Numbers
 pub mod Create
 pub mod Complete
 pub mod Write

@@ -24,7 +24,7 @@ use Rattle.demands.proofs.Notes.{length-written, some-written, sent-in-
 use Rattle.demands.proofs.Lookup.{slotOf}
 use Rattle.demands.proofs.Radio.{stateAt, plain, Names, Numbered, isDone, isOut, Good}
 use Rattle.demands.proofs.Radio as radio
-use Rattle.demands.proofs.Create.{number-below, number-one}
+use Rattle.demands.proofs.Numbers.{number-below, sent-to}
 
 -- the changes that pass a test carried out on an image, seen byte by byte
 pub length-carried : (test : Accepted → Bool) (l : List Accepted) (store : List ℕ) → length (carriedOut test l store) ≡ length store
@@ -78,17 +78,11 @@ by-state true committed = refl
 by-state false committed = refl
 
 module _ (h : History) (g : Good h) (new : ℕ → Bool) where
-  -- a number that was sent is an accepted change's, and was sent to its block
-  pub sent-to : (a : Accepted) → List·Memᴰ a (h .accepted) → (w : Sent) → List·Memᴰ w (h .inFlight) → isIn (a .number) (w .numbers) ≡ true → w .block ≡ a .change .block
-  sent-to a m w k f =
-      let r = g .sent w (mem-left (h .landed) w k) (a .number) f in
-      sym (r .3) ∙ ap (λ (x : Accepted). x .change .block) (number-one (h .table .first) (h .accepted) (r .0) a (g .numbers) (r .1) m (r .2))
-
   pub landed-agrees : (a : Accepted) → List·Memᴰ a (h .accepted) → hasLanded new h a ≡ landed new (radio.world h) (plain a)
   unfolding hasLanded onStore landed
   landed-agrees a m =
       sent-in-both (a .number) (those (λ w. new (w .block)) (h .inFlight)) (h .landed)
-      ∙ ap (λ (x : Bool). x || sentIn (a .number) (h .landed)) (sent-in-those new (a .number) (a .change .block) (h .inFlight) (sent-to a m))
+      ∙ ap (λ (x : Bool). x || sentIn (a .number) (h .landed)) (sent-in-those new (a .number) (a .change .block) (h .inFlight) (sent-to h g a m))
       ∙ ap₂ (λ (x y : Bool). (new (a .change .block) && x) || y) (g .out a m) (g .done a m)
       ∙ by-state (new (a .change .block)) (stateAt (h .table .slots) (slotOf (h .table .slots) (a .number)))
 

@@ -41,7 +41,8 @@ use Rattle.demands.proofs.Views.{view, view-in, view-past, Within, cove
 use Rattle.demands.proofs.Notes.{Whole, whole, view-written, not-in-none, not-sent-none, times-both}
 use Rattle.demands.proofs.Lookup.{carries, slotOf, carries-used, carries-number, carries-of, at-slot, slot-carries, slot-same, nowhere}
 use Rattle.demands.proofs.Radio.{stateWord, isSoft, stateAt, softAt, roomAt, Tied, plain, roomByte, room-byte, oldByte, world, Same, Numbered, isDone, isOut, Good}
-use Rattle.demands.proofs.Create.{number-below, number-one, of-log, soft-room}
+use Rattle.demands.proofs.Numbers.{numbered, on-log}
+use Rattle.demands.proofs.Create.{soft-room}
 
 waiting-word : (u : rules.State) → isWaiting u ≡ true → stateWord u ≡ waiting
 waiting-word state.Free e = absurd (clash e refl)
@@ -122,15 +123,6 @@ in-numbers ss s n (suc k) i l h e = go (has s k) refl (same-or-other i k) (λ m.
 abbrev goAt : ℕ → Option ℕ → Bool
 goAt s none = false
 goAt s (some j) = has s j
-
--- each issued number is an accepted change's
-pub numbered : (first : ℕ) (l : List Accepted) (n : ℕ) → Numbered first l → first ≤ n → n < first + length l → (a : Accepted) × List·Memᴰ a l × (a .number ≡ n)
-numbered first [] n q l m = absurd (omega arith)
-numbered first (a ∷ l) n q low high = go (same-or-other n (first + length l)) (λ p. numbered first l n (q .1) low p)
-  where
-    go : (n ≡ first + length l) ⊎ (n ≢ first + length l) → (n < first + length l → (x : Accepted) × List·Memᴰ x l × (x .number ≡ n)) → (x : Accepted) × List·Memᴰ x (a ∷ l) × (x .number ≡ n)
-    go (inl e) ih = (a, List·Memᴰ·head refl, q .0 ∙ sym e)
-    go (inr d) ih = let r = ih (omega arith) in (r .0, List·Memᴰ·tail (r .1), r .2)
 
 module _ (h : History) (g : Good h) (b s : ℕ) (is-block : b < blocks) (undo-whole : length (h .undo) ≡ undoBytes)
     (none-flies : (i : ℕ) → i < slots → fliesOn (h .table .slots) b i ≡ true → ⊥) (may : MayGo (h .table .slots) b s) (some-goes : (i : ℕ) × (has s i ≡ true)) where
@@ -456,18 +448,15 @@ module _ (h : History) (g : Good h) (b s : ℕ) (is-block : b < blocks) (undo-wh
       ∙ carry-outside d i (whole writ) (view (written (h .inFlight ++ h .landed) (h .opening)))
       (⊎-elim (λ e. absurd (n (inside-of (whole writ) d i e .0))) (λ e. e) (true-or-false (covers (whole writ) d i)))
 
-  on-log : (P : Change → Type 0) → ((a : Accepted) → List·Memᴰ a (h .accepted) → P (plain a)) → (x : Change) → List·Memᴰ x (map plain (h .accepted)) → P x
-  on-log P f x m = let r = of-log (h .accepted) x m in subst P (r .2) (f (r .0) (r .1))
-
   pub sends : Sends b goes (world h) (world gone)
   sends = record {
     store = λ d i. refl;
     working = λ d i. refl;
     log = refl;
-    goes = on-log (λ x. goes x ≡ true → (stateAt ss (slotOf ss (x .number)) ≡ waiting) × (x .block ≡ b)) members;
+    goes = on-log (h .accepted) (λ x. goes x ≡ true → (stateAt ss (slotOf ss (x .number)) ≡ waiting) × (x .block ≡ b)) members;
     goTied = λ y x my mx e d. inr (go-tied (y .number) (x .number) e d);
-    leftKept = on-log (λ x. left b goes (world h) x ≡ true → softAt ss (slotOf ss (x .number)) ≡ true) left-soft;
-    free = on-log (λ x. x .block ≡ b → stateAt ss (slotOf ss (x .number)) ≢ inFlight) none-out;
+    leftKept = on-log (h .accepted) (λ x. left b goes (world h) x ≡ true → softAt ss (slotOf ss (x .number)) ≡ true) left-soft;
+    free = on-log (h .accepted) (λ x. x .block ≡ b → stateAt ss (slotOf ss (x .number)) ≢ inFlight) none-out;
     bytes = bytes;
     others = others;
     goState = λ x m e. go-state (x .number) e;
