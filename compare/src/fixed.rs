@@ -1,0 +1,243 @@
+//! The rows and edges of document 01 with their exact numbers. Each row is run on the library,
+//! checked against what the document says, and compared with the model like any other call.
+
+use crate::bytes::decode;
+use crate::cover::Cover;
+use crate::run::{Failure, Order, Pair, Run};
+use crate::shrink::{line, said};
+use crate::steps::*;
+use crate::table::State;
+
+/// What a row must answer, hand out and leave in a slot.
+#[derive(Clone, Default)]
+pub struct Want {
+    answer: Answer,
+    handed: Option<Vec<u8>>,
+    slot: Option<(usize, State)>,
+}
+
+type Row = (&'static str, Step, Want);
+
+fn granted() -> Want {
+    Want::default()
+}
+
+fn refused(refusal: u32) -> Want {
+    Want { answer: Answer { refusal, ..Answer::default() }, ..Want::default() }
+}
+
+fn hard(number: u32) -> Want {
+    Want { answer: Answer { number, hold: 1, ..Answer::default() }, ..Want::default() }
+}
+
+fn soft(number: u32, room: u32) -> Want {
+    Want { answer: Answer { number, hold: 2 + room, ..Answer::default() }, ..Want::default() }
+}
+
+fn state(state: u32) -> Want {
+    Want { answer: Answer { state, ..Answer::default() }, ..Want::default() }
+}
+
+fn counts(count: u32) -> Want {
+    Want { answer: Answer { count, ..Answer::default() }, ..Want::default() }
+}
+
+/// Slots sent, and the block handed out as runs of (how many, which byte), then zeros.
+fn sends(slots: &[u32], runs: &[(usize, u8)]) -> Want {
+    let set = slots.iter().map(|slot| 1u64 << slot).sum();
+    let mut handed: Vec<u8> = runs.iter().flat_map(|&(count, byte)| vec![byte; count]).collect();
+    handed.resize(256, 0);
+    Want { answer: Answer { set, ..Answer::default() }, handed: Some(handed), slot: None }
+}
+
+impl Want {
+    fn leaving(mut self, slot: usize, state: State) -> Want {
+        self.slot = Some((slot, state));
+        self
+    }
+}
+
+fn up_to_p6() -> Vec<Row> {
+    vec![
+        ("open", open(1), granted()),
+        ("P1", create(1, 0, &[65; 8], &[]), hard(1)),
+        ("P2", create(2, 0, &[1; 2], &[1]), hard(2)),
+        ("P3", create(2, 2, &[2; 2], &[]), hard(3)),
+        ("P4", create(1, 8, &[66; 8], &[3]), soft(4, 0).leaving(3, State::WaitingSoft { room: 0 })),
+        ("P5", write(2), refused(13)),
+        ("P6", write(1), sends(&[0], &[(8, 65)]).leaving(0, State::InFlightHard)),
+    ]
+}
+
+fn two_pages() -> Vec<Row> {
+    let mut rows = up_to_p6();
+    rows.extend([
+        ("P7", write(1), refused(11)),
+        ("P8 complete", complete(1), granted().leaving(0, State::Free)),
+        ("P8 write", write(2), sends(&[1, 2], &[(2, 1), (2, 2)])),
+        ("P9", write(1), refused(13)),
+        ("P10 complete", complete(2), granted()),
+        ("P10 write", write(1), sends(&[3], &[(8, 65), (8, 66)]).leaving(3, State::InFlightSoft)),
+    ]);
+    rows
+}
+
+fn branch_after_p6() -> Vec<Row> {
+    let mut rows = up_to_p6();
+    rows.extend([
+        ("branch: 5 is hard, 4 turns hard", create(1, 0, &[67], &[]), hard(5).leaving(3, State::WaitingHard)),
+        ("branch: in flight still", write(1), refused(11)),
+        ("branch: complete 1", complete(1), granted()),
+        ("branch: 13 while 3 waits", write(1), refused(13)),
+        ("branch: 2 and 3 go", write(2), sends(&[1, 2], &[(2, 1), (2, 2)])),
+        ("branch: 13 while 3 is in flight", write(1), refused(13)),
+        ("branch: 3 commits", complete(2), granted()),
+        ("branch: 4 and 5 go", write(1), sends(&[3, 4], &[(1, 67), (7, 65), (8, 66)])),
+    ]);
+    rows
+}
+
+fn edges_of_create() -> Vec<Row> {
+    vec![
+        ("open", open(1), granted()),
+        ("length 64 at 192", create(0, 192, &[7; 64], &[]), hard(1)),
+        ("length 64 at 193", create(0, 193, &[7; 64], &[]), refused(5)),
+        ("1 byte at 255", create(0, 255, &[7], &[]), hard(2)),
+        ("1 byte at 256", create(0, 256, &[7], &[]), refused(5)),
+        ("1 byte at 4,294,967,295", create(0, u32::MAX, &[7], &[]), refused(5)),
+        ("64 bytes at 4,294,967,232", create(0, u32::MAX - 63, &[7; 64], &[]), refused(5)),
+        ("length 0", create(0, 0, &[], &[]), refused(4)),
+        ("length 65", create(0, 0, &[7; 65], &[]), refused(4)),
+        ("8 numbers", create(0, 0, &[7], &[1, 2, 1, 2, 1, 2, 1, 2]), hard(3)),
+        ("9 numbers", create(0, 0, &[7], &[1; 9]), refused(6)),
+        ("9 numbers, one never issued", create(0, 0, &[7], &[9; 9]), refused(6)),
+        ("its own coming number", create(0, 0, &[7], &[4]), refused(7)),
+        ("number 0", create(0, 0, &[7], &[0]), refused(7)),
+        ("block 63", create(63, 255, &[7], &[]), hard(4)),
+        ("block 64", create(64, 0, &[7], &[]), refused(3)),
+        ("image short", create(0, 0, &[7], &[]).lending(Buffer::Image, 16_383), refused(1)),
+        ("undo area long", create(0, 0, &[7], &[]).lending(Buffer::Undo, 1_025), refused(1)),
+        ("table short", create(0, 0, &[7], &[]).lending(Buffer::Table, 2_055), refused(2)),
+        ("block handed out short", write(0).lending(Buffer::Handed, 255), refused(1)),
+    ]
+}
+
+fn edges_of_open() -> Vec<Row> {
+    vec![
+        ("open 0", open(0), refused(15)),
+        ("then first is 1", create(0, 0, &[7], &[]), hard(1)),
+        ("open 1,000,000,001", open(1_000_000_001), refused(15)),
+        ("then first is 1 and 1 not issued", ask(1), refused(7)),
+        ("open a short table", open(0).lending(Buffer::Table, 2_055), refused(2)),
+        ("open 1,000,000,000", open(1_000_000_000), granted()),
+        ("one create is granted", create(0, 0, &[7], &[]), hard(1_000_000_000)),
+        ("the next is 8", create(0, 0, &[7], &[]), refused(8)),
+        ("7 comes before 8", create(0, 0, &[7], &[1_000_000_001]), refused(7)),
+        ("the last number waits", ask(1_000_000_000), state(1)),
+        ("it goes", write(0), sends(&[0], &[(1, 7)])),
+        ("it is in flight", ask(1_000_000_000), state(2)),
+        ("it commits", complete(0), granted()),
+        ("it has committed", ask(1_000_000_000), state(3)),
+        ("still 8", create(0, 0, &[7], &[1_000_000_000]), refused(8)),
+    ]
+}
+
+fn full_slots() -> Vec<Row> {
+    let mut rows = vec![("open", open(1), granted())];
+    for number in 1..=64 {
+        rows.push(("one of 64", create(0, 0, &[number as u8], &[]), hard(number)));
+    }
+    rows.push(("the sixty-fifth", create(0, 0, &[65], &[]), refused(9)));
+    rows.push(("count", count(0), counts(64)));
+    rows
+}
+
+fn full_rooms() -> Vec<Row> {
+    let mut rows = vec![
+        ("open", open(1), granted()),
+        ("one on block 1", create(1, 0, &[1], &[]), hard(1)),
+        ("one on block 2 names it", create(2, 0, &[2], &[1]), hard(2)),
+    ];
+    for room in 0..16 {
+        rows.push(("one of sixteen", create(1, 0, &[room as u8], &[]), soft(3 + room, room)));
+    }
+    rows.push(("the seventeenth", create(1, 0, &[16], &[]), refused(10)));
+    rows.push(("count", count(1), counts(17)));
+    rows.push((
+        "all go together",
+        write(1),
+        sends(&(0..=17).filter(|&s| s != 1).collect::<Vec<_>>(), &[(1, 15)]),
+    ));
+    rows.push(("the rooms are free", create(1, 9, &[1], &[]), hard(19)));
+    rows
+}
+
+/// Two soft patches that overlap: one is struck only because the other is, and both are taken back.
+fn shortcuts() -> Vec<Row> {
+    vec![
+        ("open", open(1), granted()),
+        ("1 on block 1", create(1, 0, &[10; 4], &[]), hard(1)),
+        ("2 on block 2 after 1", create(2, 0, &[20; 4], &[1]), hard(2)),
+        ("3 on block 1 after 2", create(1, 2, &[30; 4], &[2]), soft(3, 0)),
+        ("4 on block 1 over 3", create(1, 4, &[40; 4], &[]), soft(4, 1)),
+        ("5 on block 1 beside them", create(1, 8, &[50; 2], &[]), soft(5, 2)),
+        ("offset inside, end outside", create(1, 250, &[9; 8], &[]), refused(5)),
+        ("1 and 5 go", write(1), sends(&[0, 4], &[(4, 10), (4, 0), (2, 50)])),
+        ("2 follows 1 in flight", write(2), refused(13)),
+        ("complete block 1", complete(1), granted()),
+        ("1 has committed", ask(1), state(3)),
+        ("2 goes", write(2), sends(&[1], &[(4, 20)])),
+        ("3 follows 2 in flight", write(1), refused(13)),
+        ("a committed number named", create(3, 0, &[1], &[1]), hard(6).leaving(0, State::WaitingHard)),
+        ("complete block 2", complete(2), granted()),
+        ("3 and 4 go", write(1), sends(&[2, 3], &[(2, 10), (2, 30), (4, 40), (2, 50)])),
+    ]
+}
+
+pub fn all() -> Vec<(&'static str, Vec<Row>)> {
+    vec![
+        ("P1 to P10", two_pages()),
+        ("the branch after P6", branch_after_p6()),
+        ("edges of create", edges_of_create()),
+        ("edges of open", edges_of_open()),
+        ("full slots", full_slots()),
+        ("full rooms", full_rooms()),
+        ("the shortcuts", shortcuts()),
+    ]
+}
+
+/// Runs all fixed cases; gives how many rows were run, or what went wrong first.
+pub fn run(pair: Pair) -> Result<usize, String> {
+    let mut rows_run = 0;
+    for (case, rows) in all() {
+        let mut run = Run::start(pair, &Order::of(&[]));
+        for (row, step, want) in rows {
+            let found = |what: String| format!("{case}, row \"{row}\", {}: {what}", line(&step));
+            let answer = run.step(&step, &mut Cover::default()).map_err(|failure| found(both(&failure)))?;
+            check(&run, &answer, &want).map_err(found)?;
+            rows_run += 1;
+        }
+    }
+    Ok(rows_run)
+}
+
+fn both(failure: &Failure) -> String {
+    let model = failure.model.as_ref().map_or(String::from("not asked"), said);
+    format!("{}\n  library: {}\n  model:   {model}", failure.what, said(&failure.library))
+}
+
+fn check(run: &Run, answer: &Answer, want: &Want) -> Result<(), String> {
+    if *answer != want.answer {
+        return Err(format!("\n  answered {}\n  wanted   {}", said(answer), said(&want.answer)));
+    }
+    if want.handed.as_ref().is_some_and(|handed| *handed != run.lent.handed) {
+        return Err(format!("the block handed out is {:?}", run.lent.handed));
+    }
+    if let Some((slot, state)) = want.slot {
+        let found = decode(&run.lent.table).map(|table| table.slots[slot].state);
+        if found != Some(state) {
+            return Err(format!("slot {slot} is {found:?}, wanted {state:?}"));
+        }
+    }
+    Ok(())
+}

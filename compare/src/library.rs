@@ -1,0 +1,51 @@
+//! The six calls over plain buffers. Each answers a refusal number (0 granted); what else it
+//! answers goes through the numbers lent last, which every call writes.
+
+#[allow(clippy::too_many_arguments)]
+pub trait Library {
+    fn open(&self, table: &mut [u8], first: u32) -> u32;
+
+    /// hold: 0 no word, 1 hard, 2 + r soft with undo room r.
+    fn create(
+        &self,
+        table: &mut [u8],
+        image: &mut [u8],
+        undo: &mut [u8],
+        block: u32,
+        offset: u32,
+        data: &[u8],
+        named: &[u32],
+        number: &mut u32,
+        hold: &mut u32,
+    ) -> u32;
+
+    /// set: bit i where slot i was sent.
+    fn write(
+        &self,
+        table: &mut [u8],
+        image: &[u8],
+        undo: &[u8],
+        handed: &mut [u8],
+        block: u32,
+        set: &mut u64,
+    ) -> u32;
+
+    fn complete(&self, table: &mut [u8], block: u32) -> u32;
+
+    /// state: 0 no word, 1 waiting, 2 in flight, 3 committed.
+    fn ask(&self, table: &[u8], asked: u32, state: &mut u32) -> u32;
+
+    fn count(&self, table: &[u8], block: u32, count: &mut u32) -> u32;
+}
+
+/// The library under test: libboard.a.
+#[cfg(not(feature = "mock"))]
+pub fn under_test() -> (&'static str, Box<dyn Library>) {
+    ("libboard.a", Box::new(crate::board::Board))
+}
+
+/// Built with the feature "mock": the model stands in for the library.
+#[cfg(feature = "mock")]
+pub fn under_test() -> (&'static str, Box<dyn Library>) {
+    ("the model standing in (mock)", Box::new(crate::mock::Mock(crate::model::Right)))
+}

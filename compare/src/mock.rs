@@ -1,0 +1,126 @@
+//! A model behind the library's byte interface: it takes the table's bytes apart, runs the model
+//! and, if the call was granted, puts the whole table back.
+
+use crate::bytes::{TABLE_BYTES, decode, encode, mask};
+use crate::library::Library;
+use crate::model::Model;
+use crate::table::*;
+
+pub struct Mock<M>(pub M);
+
+impl<M: Model> Library for Mock<M> {
+    fn open(&self, table: &mut [u8], first: u32) -> u32 {
+        if table.len() != TABLE_BYTES {
+            return 2;
+        }
+        let (refusal, opened) = self.0.open(first);
+        encode(&opened, table);
+        refusal
+    }
+
+    fn create(
+        &self,
+        table: &mut [u8],
+        image: &mut [u8],
+        undo: &mut [u8],
+        block: u32,
+        offset: u32,
+        data: &[u8],
+        named: &[u32],
+        number: &mut u32,
+        hold: &mut u32,
+    ) -> u32 {
+        (*number, *hold) = (0, 0);
+        let Some(mut taken) = decode(table) else {
+            return no_table(image.len() == IMAGE_BYTES && undo.len() == UNDO_BYTES);
+        };
+        match self.0.create(&mut taken, image, undo, &Change { block, offset, data, named }) {
+            Err(refusal) => refusal,
+            Ok((new, state)) => {
+                (*number, *hold) = (new, hold_word(state));
+                encode(&taken, table);
+                0
+            }
+        }
+    }
+
+    fn write(
+        &self,
+        table: &mut [u8],
+        image: &[u8],
+        undo: &[u8],
+        handed: &mut [u8],
+        block: u32,
+        set: &mut u64,
+    ) -> u32 {
+        *set = 0;
+        let Some(mut taken) = decode(table) else {
+            let exact = image.len() == IMAGE_BYTES && undo.len() == UNDO_BYTES;
+            return no_table(exact && handed.len() == BLOCK_BYTES);
+        };
+        match self.0.write(&mut taken, image, undo, handed, block) {
+            Err(refusal) => refusal,
+            Ok(sent) => {
+                *set = mask(&sent);
+                encode(&taken, table);
+                0
+            }
+        }
+    }
+
+    fn complete(&self, table: &mut [u8], block: u32) -> u32 {
+        let Some(mut taken) = decode(table) else { return 2 };
+        match self.0.complete(&mut taken, block) {
+            Err(refusal) => refusal,
+            Ok(()) => {
+                encode(&taken, table);
+                0
+            }
+        }
+    }
+
+    fn ask(&self, table: &[u8], asked: u32, state: &mut u32) -> u32 {
+        *state = 0;
+        let Some(taken) = decode(table) else { return 2 };
+        match self.0.ask(&taken, asked) {
+            Err(refusal) => refusal,
+            Ok(standing) => {
+                *state = standing_word(standing);
+                0
+            }
+        }
+    }
+
+    fn count(&self, table: &[u8], block: u32, count: &mut u32) -> u32 {
+        *count = 0;
+        let Some(taken) = decode(table) else { return 2 };
+        match self.0.count(&taken, block) {
+            Err(refusal) => refusal,
+            Ok(waiting) => {
+                *count = waiting;
+                0
+            }
+        }
+    }
+}
+
+/// Bytes that are no table are refused 2, after 1.
+fn no_table(sizes_exact: bool) -> u32 {
+    if sizes_exact { 2 } else { 1 }
+}
+
+fn hold_word(state: State) -> u32 {
+    match state {
+        State::WaitingHard => 1,
+        State::WaitingSoft { room } => 2 + room,
+        _ => 0,
+    }
+}
+
+fn standing_word(standing: Standing) -> u32 {
+    match standing {
+        Standing::Waiting => 1,
+        Standing::InFlight => 2,
+        Standing::Committed => 3,
+    }
+}

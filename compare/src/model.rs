@@ -1,0 +1,355 @@
+//! The model: the rules of document 01, said once more and in another way than the library.
+//!
+//! Every rule is a method of the trait `Model` with its body here. `Right` takes them all as they
+//! are. A wrong model (wrong.rs) replaces one of them and keeps the rest.
+//!
+//! Sets are sets of slot numbers, not masks. The largest set that may go is found by trying every
+//! subset when few patches wait, else by following befores. No striking in rounds is done here.
+
+use crate::table::*;
+use std::collections::BTreeSet;
+
+/// Puts bytes into a lent buffer from a place on.
+fn put(into: &mut [u8], from: usize, bytes: &[u8]) {
+    for (place, byte) in into.iter_mut().skip(from).zip(bytes) {
+        *place = *byte;
+    }
+}
+
+fn block_start(block: u32) -> usize {
+    BLOCK_BYTES * block as usize
+}
+
+fn room_start(room: u32) -> usize {
+    ROOM_BYTES * room as usize
+}
+
+pub trait Model {
+    // ---- The table: when it is sound, and what its numbers mean ----
+
+    fn tests_clause(&self, _clause: Clause) -> bool {
+        true
+    }
+
+    fn sound(&self, table: &Table) -> bool {
+        CLAUSES.iter().all(|&clause| !self.tests_clause(clause) || self.clause_holds(clause, table))
+    }
+
+    fn clause_holds(&self, clause: Clause, table: &Table) -> bool {
+        let every = |test: &dyn Fn(usize, &Slot) -> bool| table.patches().all(|(i, p)| test(i, p));
+        match clause {
+            Clause::First => 1 <= table.first && table.first <= LAST_NUMBER,
+            Clause::Next => table.first <= table.next && table.next <= LAST_NUMBER + 1,
+            Clause::NumbersIssued => every(&|_, p| table.first <= p.number && p.number < table.next),
+            Clause::NumbersDiffer => all_different(table.patches().map(|(_, p)| p.number)),
+            Clause::Blocks => every(&|_, p| p.block <= LAST_BLOCK),
+            Clause::Lengths => every(&|_, p| 1 <= p.length && p.length <= LONGEST_DATA as u32),
+            Clause::Ends => every(&|_, p| p.end() <= BLOCK_BYTES as u64),
+            Clause::BeforesUsed => every(&|_, p| p.befores.iter().all(|&b| table.slots[b].used())),
+            Clause::BeforesNotOwn => every(&|i, p| !p.befores.contains(&i)),
+            Clause::Rooms => table.rooms_taken().iter().all(|&room| room < ROOMS),
+            Clause::RoomsDiffer => all_different(table.rooms_taken().into_iter()),
+        }
+    }
+
+    /// A number from first up to next - 1 was issued; in no slot, it has committed.
+    fn never_issued(&self, table: &Table, number: u32) -> bool {
+        number < table.first || number >= table.next
+    }
+
+    // ---- Refusals: the table "holds when", and each call's tests in rising number ----
+
+    fn tests(&self, kind: Kind) -> &'static [Refusal] {
+        match kind {
+            Kind::Open => &[15],
+            Kind::Create => &[1, 2, 3, 4, 5, 6, 7, 8, 9, 10],
+            Kind::Write => &[1, 2, 3, 11, 12, 13],
+            Kind::Complete => &[2, 3, 14],
+            Kind::Ask => &[2, 7],
+            Kind::Count => &[2, 3],
+        }
+    }
+
+    fn holds(&self, refusal: Refusal, table: &Table, asked: &Asked) -> bool {
+        match refusal {
+            1 => asked.sizes_wrong,
+            2 => !self.sound(table),
+            3 => asked.block > LAST_BLOCK,
+            4 => asked.length == 0 || asked.length > LONGEST_DATA,
+            5 => self.past_the_end(asked.offset, asked.length),
+            6 => asked.numbers.len() > MOST_NAMED,
+            7 => asked.numbers.iter().any(|&n| self.never_issued(table, n)),
+            8 => table.next == LAST_NUMBER + 1,
+            9 => self.lowest_free_slot(table).is_none(),
+            10 => !self.would_be_hard(table, asked.block) && self.lowest_free_room(table).is_none(),
+            11 => !table.in_flight(asked.block).is_empty(),
+            12 => table.waiting(asked.block).is_empty(),
+            13 => self.largest_that_may_go(table, asked.block).is_empty(),
+            14 => table.in_flight(asked.block).is_empty(),
+            15 => asked.numbers.iter().any(|&n| n == 0 || n > LAST_NUMBER),
+            _ => false,
+        }
+    }
+
+    fn past_the_end(&self, offset: u32, length: usize) -> bool {
+        u64::from(offset) + length as u64 > BLOCK_BYTES as u64
+    }
+
+    /// The first refusal that holds, if any.
+    fn judge(&self, kind: Kind, table: &Table, asked: &Asked) -> Result<(), Refusal> {
+        match self.tests(kind).iter().find(|&&refusal| self.holds(refusal, table, asked)) {
+            Some(&refusal) => Err(refusal),
+            None => Ok(()),
+        }
+    }
+
+    // ---- Open ----
+
+    fn open(&self, first: u32) -> (Refusal, Table) {
+        let asked = Asked { numbers: &[first], ..Asked::default() };
+        match self.judge(Kind::Open, &Table::empty(1), &asked) {
+            Ok(()) => (0, Table::empty(first)),
+            Err(refusal) => (refusal, Table::empty(1)),
+        }
+    }
+
+    // ---- Create ----
+
+    /// Answers the new patch's number and its state: hard, or soft with its room.
+    fn create(
+        &self,
+        table: &mut Table,
+        image: &mut [u8],
+        undo: &mut [u8],
+        change: &Change,
+    ) -> Result<(u32, State), Refusal> {
+        let asked = Asked {
+            sizes_wrong: image.len() != IMAGE_BYTES || undo.len() != UNDO_BYTES,
+            block: change.block,
+            offset: change.offset,
+            length: change.data.len(),
+            numbers: change.named,
+        };
+        self.judge(Kind::Create, table, &asked)?;
+        let slot = self.lowest_free_slot(table).ok_or(9u32)?;
+        let befores = self.befores(table, change);
+        let start = block_start(change.block) + change.offset as usize;
+        let state = if self.would_be_hard(table, change.block) {
+            self.turn_waiting_soft_hard(table, change.block);
+            State::WaitingHard
+        } else {
+            let room = self.lowest_free_room(table).ok_or(10u32)?;
+            let old: Vec<u8> = image.iter().skip(start).take(change.data.len()).copied().collect();
+            self.keep_old_bytes(undo, room, &old);
+            State::WaitingSoft { room }
+        };
+        put(image, start, change.data);
+        let number = table.next;
+        let length = change.data.len() as u32;
+        table.slots[slot] =
+            Slot { state, number, block: change.block, offset: change.offset, length, befores };
+        table.next += 1;
+        Ok((number, state))
+    }
+
+    fn lowest_free_slot(&self, table: &Table) -> Option<usize> {
+        (0..SLOTS).find(|&i| !table.slots[i].used())
+    }
+
+    fn lowest_free_room(&self, table: &Table) -> Option<u32> {
+        let taken = table.rooms_taken();
+        (0..ROOMS).find(|room| !taken.contains(room))
+    }
+
+    /// The slots of the named numbers that have not committed, and of all patches it overlaps.
+    fn befores(&self, table: &Table, change: &Change) -> Slots {
+        let named = change.named.iter().filter_map(|&number| table.slot_of(number));
+        let overlapped = table.patches().filter(|(_, p)| self.overlaps(p, change)).map(|(i, _)| i);
+        named.chain(overlapped).collect()
+    }
+
+    /// Waiting or in flight, of the same block, with a byte in common.
+    fn overlaps(&self, patch: &Slot, change: &Change) -> bool {
+        let end = u64::from(change.offset) + change.data.len() as u64;
+        patch.block == change.block && self.share_a_byte(patch, u64::from(change.offset), end)
+    }
+
+    fn share_a_byte(&self, patch: &Slot, start: u64, end: u64) -> bool {
+        (u64::from(patch.offset)..patch.end()).any(|byte| start <= byte && byte < end)
+    }
+
+    /// No patch on another block has a waiting patch of this block among its befores.
+    fn would_be_hard(&self, table: &Table, block: u32) -> bool {
+        let waiting = table.waiting(block);
+        !table.patches().any(|(_, p)| p.block != block && !p.befores.is_disjoint(&waiting))
+    }
+
+    fn turn_waiting_soft_hard(&self, table: &mut Table, block: u32) {
+        for slot in table.waiting(block) {
+            table.slots[slot].state = State::WaitingHard;
+        }
+    }
+
+    /// The old bytes go into the room's first bytes; the rest of the room stays.
+    fn keep_old_bytes(&self, undo: &mut [u8], room: u32, old: &[u8]) {
+        put(undo, room_start(room), old);
+    }
+
+    // ---- Write ----
+
+    /// Answers the slots sent.
+    fn write(
+        &self,
+        table: &mut Table,
+        image: &[u8],
+        undo: &[u8],
+        handed: &mut [u8],
+        block: u32,
+    ) -> Result<Slots, Refusal> {
+        let lent = [(image.len(), IMAGE_BYTES), (undo.len(), UNDO_BYTES), (handed.len(), BLOCK_BYTES)];
+        let sizes_wrong = lent.iter().any(|(size, exact)| size != exact);
+        self.judge(Kind::Write, table, &Asked { sizes_wrong, block, ..Asked::default() })?;
+        let sent = self.largest_that_may_go(table, block);
+        let left_behind: Slots = table.waiting(block).difference(&sent).copied().collect();
+        put(handed, 0, &image[block_start(block)..block_start(block) + BLOCK_BYTES]);
+        for slot in self.order_of_taking_back(table, &left_behind) {
+            self.take_back(&table.slots[slot], undo, handed);
+        }
+        for &slot in &sent {
+            self.send(&mut table.slots[slot]);
+        }
+        Ok(sent)
+    }
+
+    /// May this subset of the block's waiting patches go? The definition, word by word.
+    fn may_go(&self, table: &Table, block: u32, subset: &Slots) -> bool {
+        let befores_in_it = subset.iter().all(|&i| self.must_follow(table, i).is_subset(subset));
+        befores_in_it && (subset.is_empty() || self.has_all_hard(table, block, subset))
+    }
+
+    fn must_follow(&self, table: &Table, slot: usize) -> Slots {
+        table.slots[slot].befores.clone()
+    }
+
+    fn has_all_hard(&self, table: &Table, block: u32, subset: &Slots) -> bool {
+        table.hard_waiting(block).is_subset(subset)
+    }
+
+    fn largest_that_may_go(&self, table: &Table, block: u32) -> Slots {
+        if table.waiting(block).len() <= FEW {
+            self.largest_by_trying(table, block)
+        } else {
+            self.largest_by_following(table, block)
+        }
+    }
+
+    /// Tries every subset and keeps the largest that may go.
+    fn largest_by_trying(&self, table: &Table, block: u32) -> Slots {
+        let mut subsets = vec![Slots::new()];
+        for slot in table.waiting(block) {
+            for i in 0..subsets.len() {
+                let mut with_it = subsets[i].clone();
+                with_it.insert(slot);
+                subsets.push(with_it);
+            }
+        }
+        subsets.retain(|subset| self.may_go(table, block, subset));
+        subsets.into_iter().max_by_key(|subset| subset.len()).unwrap_or_default()
+    }
+
+    /// A patch is in some closed subset exactly when all that stands before it, straight or
+    /// through others, waits on this block. These patches together are the largest closed subset;
+    /// it may go when it has all hard patches, and else nothing but the empty one may.
+    fn largest_by_following(&self, table: &Table, block: u32) -> Slots {
+        let waiting = table.waiting(block);
+        let all_here = |&i: &usize| self.all_that_stands_before(table, i).is_subset(&waiting);
+        let closed: Slots = waiting.iter().copied().filter(all_here).collect();
+        if self.has_all_hard(table, block, &closed) { closed } else { Slots::new() }
+    }
+
+    fn all_that_stands_before(&self, table: &Table, slot: usize) -> Slots {
+        let mut found = Slots::new();
+        let mut to_visit = vec![slot];
+        while let Some(next) = to_visit.pop() {
+            for before in self.must_follow(table, next) {
+                if found.insert(before) {
+                    to_visit.push(before);
+                }
+            }
+        }
+        found
+    }
+
+    /// Highest number first.
+    fn order_of_taking_back(&self, table: &Table, left_behind: &Slots) -> Vec<usize> {
+        let mut order: Vec<usize> = left_behind.iter().copied().collect();
+        order.sort_by_key(|&slot| table.slots[slot].number);
+        order.reverse();
+        order
+    }
+
+    fn take_back(&self, patch: &Slot, undo: &[u8], handed: &mut [u8]) {
+        if let Some(room) = patch.room() {
+            let old = undo.iter().skip(room_start(room)).take(patch.length as usize);
+            put(handed, patch.offset as usize, &old.copied().collect::<Vec<u8>>());
+        }
+    }
+
+    /// In flight from now on; a room it had is free.
+    fn send(&self, patch: &mut Slot) {
+        patch.state = match patch.state {
+            State::WaitingHard => State::InFlightHard,
+            State::WaitingSoft { .. } => State::InFlightSoft,
+            other => other,
+        };
+    }
+
+    // ---- Complete ----
+
+    fn complete(&self, table: &mut Table, block: u32) -> Result<(), Refusal> {
+        self.judge(Kind::Complete, table, &Asked { block, ..Asked::default() })?;
+        let committed = table.in_flight(block);
+        for &slot in &committed {
+            table.slots[slot] = Slot::free();
+        }
+        for patch in table.slots.iter_mut().filter(|slot| slot.used()) {
+            self.forget_committed(patch, &committed);
+        }
+        Ok(())
+    }
+
+    fn forget_committed(&self, patch: &mut Slot, committed: &Slots) {
+        patch.befores.retain(|before| !committed.contains(before));
+    }
+
+    // ---- Ask and count ----
+
+    fn ask(&self, table: &Table, number: u32) -> Result<Standing, Refusal> {
+        self.judge(Kind::Ask, table, &Asked { numbers: &[number], ..Asked::default() })?;
+        Ok(match table.slot_of(number) {
+            None => Standing::Committed,
+            Some(slot) if table.slots[slot].waiting() => Standing::Waiting,
+            Some(_) => Standing::InFlight,
+        })
+    }
+
+    fn count(&self, table: &Table, block: u32) -> Result<u32, Refusal> {
+        self.judge(Kind::Count, table, &Asked { block, ..Asked::default() })?;
+        Ok(self.counted(table, block).len() as u32)
+    }
+
+    fn counted(&self, table: &Table, block: u32) -> Slots {
+        table.waiting(block)
+    }
+}
+
+fn all_different(numbers: impl Iterator<Item = u32>) -> bool {
+    let mut seen = BTreeSet::new();
+    let mut numbers = numbers;
+    numbers.all(|number| seen.insert(number))
+}
+
+/// The model as document 01 has it.
+pub struct Right;
+
+impl Model for Right {}

@@ -1,0 +1,217 @@
+//! Makes call orders from a seed. The next call is chosen with an eye on the table as it stands,
+//! so that orders reach full slots, full rooms, overlaps, chains over blocks and every refusal.
+
+use crate::faults;
+use crate::random::Random;
+use crate::steps::{Step, ask, complete, count, create, write};
+use crate::table::{BLOCK_BYTES, LAST_BLOCK, LAST_NUMBER, LONGEST_DATA, MOST_NAMED, ROOMS, Table};
+
+/// What an order likes to do.
+#[derive(Clone, Debug)]
+pub struct Taste {
+    pub blocks: Vec<u32>,
+    /// Changes start at an offset below this.
+    pub span: u32,
+    pub longest: u32,
+    /// Percent of the changes that name numbers.
+    pub naming: u32,
+    /// Each change names the one made last.
+    pub chain: bool,
+    /// How often create, write, complete, ask and count come.
+    pub weights: [u32; 5],
+    /// Percent of the calls that have some fault.
+    pub faults: u32,
+}
+
+fn some_blocks(random: &mut Random, count: usize) -> Vec<u32> {
+    let mut blocks: Vec<u32> = (0..=LAST_BLOCK).collect();
+    random.shuffle(&mut blocks);
+    blocks.truncate(count);
+    if random.percent(30) && !blocks.contains(&LAST_BLOCK) {
+        blocks[0] = LAST_BLOCK;
+    }
+    blocks
+}
+
+impl Taste {
+    pub fn of_seed(random: &mut Random) -> Taste {
+        let few = 2 + random.below(4);
+        let blocks = some_blocks(random, few);
+        let (span, longest, faults) = (64, 12, 6);
+        let mixed =
+            Taste { blocks, span, longest, naming: 50, chain: false, weights: [45, 22, 22, 6, 5], faults };
+        match random.below(7) {
+            0 => Taste { naming: 0, weights: [90, 3, 3, 2, 2], ..mixed },
+            1 => Taste { blocks: some_blocks(random, 2), naming: 70, weights: [80, 8, 8, 2, 2], ..mixed },
+            2 => Taste { chain: true, naming: 90, weights: [55, 20, 20, 3, 2], ..mixed },
+            3 => Taste { span: 10, longest: 8, naming: 60, ..mixed },
+            4 => Taste {
+                blocks: (0..=LAST_BLOCK).collect(),
+                span: BLOCK_BYTES as u32,
+                longest: LONGEST_DATA as u32,
+                weights: [60, 15, 15, 5, 5],
+                ..mixed
+            },
+            5 => Taste { weights: [70, 14, 10, 3, 3], naming: 65, ..mixed },
+            _ => mixed,
+        }
+    }
+}
+
+/// A first number: mostly small, at times near the last.
+pub fn first_number(random: &mut Random) -> u32 {
+    match random.below(10) {
+        0 => LAST_NUMBER - random.between(0, 100),
+        1 if random.percent(20) => LAST_NUMBER,
+        2 => random.between(1, LAST_NUMBER),
+        3..=5 => random.between(2, 300),
+        _ => 1,
+    }
+}
+
+/// All slots or all rooms are taken.
+fn crowded(table: &Table) -> bool {
+    table.slots.iter().all(|slot| slot.used()) || table.rooms_taken().len() == ROOMS as usize
+}
+
+fn none_in_flight(table: &Table) -> bool {
+    !table.patches().any(|(_, patch)| patch.in_flight())
+}
+
+pub struct Maker {
+    pub random: Random,
+    pub taste: Taste,
+}
+
+impl Maker {
+    /// The next call for this table.
+    pub fn step(&mut self, table: &Table) -> Step {
+        let step = self.proper_step(table);
+        if self.random.percent(self.taste.faults) {
+            faults::spoil(&mut self.random, table, step)
+        } else {
+            step
+        }
+    }
+
+    fn proper_step(&mut self, table: &Table) -> Step {
+        let total: u32 = self.taste.weights.iter().sum();
+        let mut at = self.random.between(0, total - 1);
+        let mut choice = 0;
+        while at >= self.taste.weights[choice] {
+            at -= self.taste.weights[choice];
+            choice += 1;
+        }
+        match choice {
+            0 if crowded(table) && self.random.percent(70) => self.relieve(table),
+            0 => self.create(table),
+            1 => self.write(table),
+            2 if none_in_flight(table) && self.random.percent(70) => self.write(table),
+            2 => self.complete(table),
+            3 => ask(self.number(table)),
+            _ => count(self.random.pick(&self.taste.blocks)),
+        }
+    }
+
+    /// Sends or completes something.
+    fn relieve(&mut self, table: &Table) -> Step {
+        self.drain_step(table).unwrap_or_else(|| self.create(table))
+    }
+
+    fn create(&mut self, table: &Table) -> Step {
+        let block = self.random.pick(&self.taste.blocks);
+        let length = match self.random.below(20) {
+            0 => LONGEST_DATA as u32,
+            1 => 1,
+            _ => self.random.between(1, self.taste.longest),
+        };
+        let last_start = BLOCK_BYTES as u32 - length;
+        let offset = match self.random.below(12) {
+            0 => last_start,
+            1 => self.touching(table, block).min(last_start),
+            _ => self.random.between(0, self.taste.span - 1).min(last_start),
+        };
+        let data = self.random.bytes(length as usize);
+        let named = if self.random.percent(self.taste.naming) { self.names(table) } else { Vec::new() };
+        create(block, offset, &data, &named)
+    }
+
+    /// An offset just after some patch of the block.
+    fn touching(&mut self, table: &Table, block: u32) -> u32 {
+        let ends: Vec<u64> =
+            table.patches().filter(|(_, p)| p.block == block).map(|(_, p)| p.end()).collect();
+        if ends.is_empty() { 0 } else { self.random.pick(&ends).min(BLOCK_BYTES as u64) as u32 }
+    }
+
+    /// One to eight numbers that were issued.
+    fn names(&mut self, table: &Table) -> Vec<u32> {
+        if table.next <= table.first {
+            return Vec::new();
+        }
+        let mut named = if self.taste.chain { vec![table.next - 1] } else { Vec::new() };
+        let many = match self.random.below(10) {
+            0 => MOST_NAMED,
+            1 => 4 + self.random.below(4),
+            _ => self.random.below(4),
+        };
+        while named.len() < many {
+            let number = if !named.is_empty() && self.random.percent(10) {
+                self.random.pick(&named)
+            } else {
+                self.number(table).clamp(table.first, table.next - 1)
+            };
+            named.push(number);
+        }
+        named
+    }
+
+    /// A number: mostly one in a slot, else one issued before, if there is one.
+    fn number(&mut self, table: &Table) -> u32 {
+        let in_use: Vec<u32> = table.patches().map(|(_, p)| p.number).collect();
+        if !in_use.is_empty() && self.random.percent(70) {
+            return self.random.pick(&in_use);
+        }
+        if table.first < table.next && table.next - 1 <= LAST_NUMBER {
+            return self.random.between(table.first, table.next - 1);
+        }
+        table.first
+    }
+
+    /// Mostly a block where patches wait and none is in flight.
+    fn write(&mut self, table: &Table) -> Step {
+        let ready = |b: &u32| !table.waiting(*b).is_empty() && table.in_flight(*b).is_empty();
+        write(self.block_where(&ready, 85))
+    }
+
+    /// Mostly a block with patches in flight.
+    fn complete(&mut self, table: &Table) -> Step {
+        complete(self.block_where(&|b| !table.in_flight(*b).is_empty(), 85))
+    }
+
+    fn block_where(&mut self, test: &dyn Fn(&u32) -> bool, percent: u32) -> u32 {
+        if self.random.percent(percent) {
+            for _ in 0..12 {
+                let block = self.random.pick(&self.taste.blocks);
+                if test(&block) {
+                    return block;
+                }
+            }
+        }
+        self.random.pick(&self.taste.blocks)
+    }
+
+    /// The next call that empties the table, or none when nothing is left to send or complete.
+    pub fn drain_step(&mut self, table: &Table) -> Option<Step> {
+        let mut in_flight: Vec<u32> = Vec::new();
+        let mut waiting: Vec<u32> = Vec::new();
+        for (_, patch) in table.patches() {
+            if patch.in_flight() { in_flight.push(patch.block) } else { waiting.push(patch.block) }
+        }
+        waiting.retain(|block| !in_flight.contains(block));
+        let send = !waiting.is_empty() && (in_flight.is_empty() || self.random.percent(60));
+        if send {
+            return Some(write(self.random.pick(&waiting)));
+        }
+        if in_flight.is_empty() { None } else { Some(complete(self.random.pick(&in_flight))) }
+    }
+}

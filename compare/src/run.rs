@@ -1,0 +1,167 @@
+//! Runs call orders on the library and on the model side by side and compares everything.
+
+use crate::bytes::{SLOT_BYTES, TABLE_BYTES, decode};
+use crate::cover::Cover;
+use crate::cut::History;
+use crate::library::Library;
+use crate::random::Random;
+use crate::steps::{Answer, Call, Lent, Step, play};
+use crate::table::{BLOCK_BYTES, ROOM_BYTES, Table};
+use crate::watch;
+
+/// An order of calls and what it starts from.
+#[derive(Clone)]
+pub struct Order {
+    /// The table's bytes at the start.
+    pub table: Vec<u8>,
+    /// Fills image, undo area and block handed out (0: all zero).
+    pub fill: u64,
+    /// Whether a history is kept and cuts are made. Not for tables no order of calls would leave.
+    pub cuts: bool,
+    pub steps: Vec<Step>,
+}
+
+impl Order {
+    /// An order that opens its table itself, on all zero buffers.
+    pub fn of(steps: &[Step]) -> Order {
+        Order { table: vec![0; TABLE_BYTES], fill: 0, cuts: true, steps: steps.to_vec() }
+    }
+}
+
+pub struct Failure {
+    /// Which call of the order it was, from 0.
+    pub at: usize,
+    pub what: String,
+    pub library: Answer,
+    pub model: Option<Answer>,
+}
+
+/// The library under test and the model beside it. Without a model only the cuts are tested.
+#[derive(Clone, Copy)]
+pub struct Pair<'a> {
+    pub library: &'a dyn Library,
+    pub model: Option<&'a dyn Library>,
+}
+
+pub struct Run<'a> {
+    pair: Pair<'a>,
+    pub lent: Lent,
+    beside: Lent,
+    /// The table as it stands; None when the bytes are no table.
+    pub table: Option<Table>,
+    history: Option<History>,
+    cuts: bool,
+    random: Random,
+    made: usize,
+}
+
+impl<'a> Run<'a> {
+    pub fn start(pair: Pair<'a>, order: &Order) -> Run<'a> {
+        let lent = Lent::filled(&order.table, order.fill);
+        let random = Random::new(order.fill);
+        let (beside, table) = (lent.clone(), decode(&order.table));
+        Run { pair, lent, beside, table, history: None, cuts: order.cuts, random, made: 0 }
+    }
+
+    /// Makes one call on both sides and compares all there is.
+    pub fn step(&mut self, step: &Step, cover: &mut Cover) -> Result<Answer, Failure> {
+        let before = if step.odd.is_empty() { None } else { Some(self.lent.clone()) };
+        self.lent.resize(&step.odd);
+        let bytes_before = self.lent.table.clone();
+        let answer = play(self.pair.library, &mut self.lent, &step.call);
+        let mut other = None;
+        let mut what = None;
+        if let Some(model) = self.pair.model {
+            self.beside.resize(&step.odd);
+            let wanted = play(model, &mut self.beside, &step.call);
+            what = difference(&answer, &wanted, &self.lent, &self.beside);
+            other = Some(wanted);
+        }
+        if let Some(before) = before {
+            self.beside = before.clone();
+            self.lent = before;
+        }
+        if what.is_none() && other.is_some() {
+            let seen = self.table.as_ref().filter(|_| bytes_before.len() == TABLE_BYTES);
+            watch::see(cover, seen, &bytes_before, step, &answer);
+        }
+        if self.lent.table != bytes_before {
+            self.table = decode(&self.lent.table);
+        }
+        let what = match what {
+            Some(what) => Some(what),
+            None => self.cut(&step.call, &answer, cover).err(),
+        };
+        self.made += 1;
+        match what {
+            None => Ok(answer),
+            Some(what) => Err(Failure { at: self.made - 1, what, library: answer, model: other }),
+        }
+    }
+
+    fn cut(&mut self, call: &Call, answer: &Answer, cover: &mut Cover) -> Result<(), String> {
+        if !self.cuts {
+            return Ok(());
+        }
+        if answer.refusal == 0 {
+            if let Call::Open { .. } = call {
+                self.history = Some(History::opened(&self.lent.image));
+            } else if let Some(history) = &mut self.history {
+                history.record(call, answer, &self.lent.handed, cover)?;
+            }
+        }
+        match &self.history {
+            None => Ok(()),
+            Some(history) => {
+                history.settled(&self.lent, cover)?;
+                history.cut(&mut self.random, cover)
+            }
+        }
+    }
+}
+
+/// Runs a whole order; the failure if there is one.
+pub fn replay(pair: Pair, order: &Order) -> Option<Failure> {
+    let mut run = Run::start(pair, order);
+    let mut cover = Cover::default();
+    order.steps.iter().find_map(|step| run.step(step, &mut cover).err())
+}
+
+fn difference(library: &Answer, model: &Answer, left: &Lent, right: &Lent) -> Option<String> {
+    if library != model {
+        return Some(String::from("the answers differ"));
+    }
+    let places: [(&str, usize, &[u8], &[u8]); 4] = [
+        ("table", SLOT_BYTES, &left.table, &right.table),
+        ("image", BLOCK_BYTES, &left.image, &right.image),
+        ("undo area", ROOM_BYTES, &left.undo, &right.undo),
+        ("block handed out", BLOCK_BYTES, &left.handed, &right.handed),
+    ];
+    for (name, unit, left, right) in places {
+        if left != right {
+            return Some(describe(name, unit, left, right));
+        }
+    }
+    None
+}
+
+/// Says where two buffers differ first, in the buffer's own terms.
+fn describe(name: &str, unit: usize, left: &[u8], right: &[u8]) -> String {
+    let at = (0..left.len().min(right.len())).find(|&i| left[i] != right[i]).unwrap_or(0);
+    if name != "table" || at < 8 {
+        let place =
+            format!("{name} differs at byte {at} ({} of {unit}, byte {} in it)", at / unit, at % unit);
+        return format!("{place}: library {}, model {}", left[at], right[at]);
+    }
+    let slot = (at - 8) / unit;
+    let show = |bytes: &[u8]| match decode(bytes) {
+        Some(table) => format!("{:?}", table.slots[slot]),
+        None => String::from("no table"),
+    };
+    format!(
+        "table differs in slot {slot}, byte {}:\n  library {}\n  model   {}",
+        (at - 8) % unit,
+        show(left),
+        show(right)
+    )
+}

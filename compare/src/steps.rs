@@ -1,0 +1,164 @@
+//! One call with all it is given, what is lent to it, and what it answers.
+
+use crate::bytes::TABLE_BYTES;
+use crate::library::Library;
+use crate::random::Random;
+use crate::table::{BLOCK_BYTES, IMAGE_BYTES, Kind, UNDO_BYTES};
+
+#[derive(Clone, PartialEq, Debug)]
+pub enum Call {
+    Open { first: u32 },
+    Create { block: u32, offset: u32, data: Vec<u8>, named: Vec<u32> },
+    Write { block: u32 },
+    Complete { block: u32 },
+    Ask { number: u32 },
+    Count { block: u32 },
+}
+
+#[derive(Clone, Copy, PartialEq, Eq, Debug)]
+pub enum Buffer {
+    Table,
+    Image,
+    Undo,
+    Handed,
+}
+
+/// A call, and the buffers lent in another size than the exact one.
+#[derive(Clone, PartialEq, Debug)]
+pub struct Step {
+    pub call: Call,
+    pub odd: Vec<(Buffer, usize)>,
+}
+
+pub fn open(first: u32) -> Step {
+    Step { call: Call::Open { first }, odd: Vec::new() }
+}
+
+pub fn create(block: u32, offset: u32, data: &[u8], named: &[u32]) -> Step {
+    let call = Call::Create { block, offset, data: data.to_vec(), named: named.to_vec() };
+    Step { call, odd: Vec::new() }
+}
+
+pub fn write(block: u32) -> Step {
+    Step { call: Call::Write { block }, odd: Vec::new() }
+}
+
+pub fn complete(block: u32) -> Step {
+    Step { call: Call::Complete { block }, odd: Vec::new() }
+}
+
+pub fn ask(number: u32) -> Step {
+    Step { call: Call::Ask { number }, odd: Vec::new() }
+}
+
+pub fn count(block: u32) -> Step {
+    Step { call: Call::Count { block }, odd: Vec::new() }
+}
+
+impl Step {
+    pub fn lending(mut self, buffer: Buffer, size: usize) -> Step {
+        self.odd.push((buffer, size));
+        self
+    }
+
+    pub fn kind(&self) -> Kind {
+        match self.call {
+            Call::Open { .. } => Kind::Open,
+            Call::Create { .. } => Kind::Create,
+            Call::Write { .. } => Kind::Write,
+            Call::Complete { .. } => Kind::Complete,
+            Call::Ask { .. } => Kind::Ask,
+            Call::Count { .. } => Kind::Count,
+        }
+    }
+}
+
+/// Everything a call answers besides the buffers. What a call does not answer is 0.
+#[derive(Clone, Copy, PartialEq, Eq, Debug, Default)]
+pub struct Answer {
+    pub refusal: u32,
+    pub number: u32,
+    pub hold: u32,
+    pub set: u64,
+    pub state: u32,
+    pub count: u32,
+}
+
+/// The buffers of one side.
+#[derive(Clone, PartialEq)]
+pub struct Lent {
+    pub table: Vec<u8>,
+    pub image: Vec<u8>,
+    pub undo: Vec<u8>,
+    pub handed: Vec<u8>,
+}
+
+impl Lent {
+    /// Image, undo area and block handed out filled from a seed; all zero for seed 0.
+    pub fn filled(table: &[u8], seed: u64) -> Lent {
+        let mut random = Random::new(seed);
+        let mut fill = |size| if seed == 0 { vec![0; size] } else { random.bytes(size) };
+        Lent {
+            table: table.to_vec(),
+            image: fill(IMAGE_BYTES),
+            undo: fill(UNDO_BYTES),
+            handed: fill(BLOCK_BYTES),
+        }
+    }
+
+    pub fn buffer(&mut self, which: Buffer) -> &mut Vec<u8> {
+        match which {
+            Buffer::Table => &mut self.table,
+            Buffer::Image => &mut self.image,
+            Buffer::Undo => &mut self.undo,
+            Buffer::Handed => &mut self.handed,
+        }
+    }
+
+    /// Cuts or lengthens the buffers that are lent in another size.
+    pub fn resize(&mut self, odd: &[(Buffer, usize)]) {
+        for &(which, size) in odd {
+            self.buffer(which).resize(size, 0xA5);
+        }
+    }
+}
+
+pub fn exact_size(which: Buffer) -> usize {
+    match which {
+        Buffer::Table => TABLE_BYTES,
+        Buffer::Image => IMAGE_BYTES,
+        Buffer::Undo => UNDO_BYTES,
+        Buffer::Handed => BLOCK_BYTES,
+    }
+}
+
+/// Stands in each number lent for an answer, so that one left unwritten shows.
+const UNWRITTEN: u32 = 0xDEAD_BEEF;
+
+/// Makes the call.
+pub fn play(library: &dyn Library, lent: &mut Lent, call: &Call) -> Answer {
+    let mut answer = Answer::default();
+    let Lent { table, image, undo, handed } = lent;
+    answer.refusal = match call {
+        Call::Open { first } => library.open(table, *first),
+        Call::Create { block, offset, data, named } => {
+            (answer.number, answer.hold) = (UNWRITTEN, UNWRITTEN);
+            let (number, hold) = (&mut answer.number, &mut answer.hold);
+            library.create(table, image, undo, *block, *offset, data, named, number, hold)
+        }
+        Call::Write { block } => {
+            answer.set = u64::from(UNWRITTEN);
+            library.write(table, image, undo, handed, *block, &mut answer.set)
+        }
+        Call::Complete { block } => library.complete(table, *block),
+        Call::Ask { number } => {
+            answer.state = UNWRITTEN;
+            library.ask(table, *number, &mut answer.state)
+        }
+        Call::Count { block } => {
+            answer.count = UNWRITTEN;
+            library.count(table, *block, &mut answer.count)
+        }
+    };
+    answer
+}

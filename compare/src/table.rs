@@ -1,0 +1,173 @@
+//! What the model is about: sizes, the table with its slots, and what is asked of it.
+
+use std::collections::BTreeSet;
+
+pub const SLOTS: usize = 64;
+pub const LAST_BLOCK: u32 = 63;
+pub const BLOCK_BYTES: usize = 256;
+pub const IMAGE_BYTES: usize = 16_384;
+pub const UNDO_BYTES: usize = 1_024;
+pub const ROOMS: u32 = 16;
+pub const ROOM_BYTES: usize = 64;
+pub const LONGEST_DATA: usize = 64;
+pub const MOST_NAMED: usize = 8;
+pub const LAST_NUMBER: u32 = 1_000_000_000;
+/// Up to this many waiting patches every subset is tried.
+pub const FEW: usize = 6;
+
+pub type Slots = BTreeSet<usize>;
+/// A refusal number of document 01.
+pub type Refusal = u32;
+
+#[derive(Clone, Copy, PartialEq, Eq, Debug)]
+pub enum State {
+    Free,
+    WaitingHard,
+    WaitingSoft { room: u32 },
+    InFlightHard,
+    InFlightSoft,
+}
+
+#[derive(Clone, PartialEq, Eq, Debug)]
+pub struct Slot {
+    pub state: State,
+    pub number: u32,
+    pub block: u32,
+    pub offset: u32,
+    pub length: u32,
+    pub befores: Slots,
+}
+
+#[derive(Clone, PartialEq, Eq, Debug)]
+pub struct Table {
+    pub first: u32,
+    pub next: u32,
+    pub slots: Vec<Slot>,
+}
+
+/// What create is asked for.
+pub struct Change<'a> {
+    pub block: u32,
+    pub offset: u32,
+    pub data: &'a [u8],
+    pub named: &'a [u32],
+}
+
+/// What ask says of a number.
+#[derive(Clone, Copy, PartialEq, Eq, Debug)]
+pub enum Standing {
+    Waiting,
+    InFlight,
+    Committed,
+}
+
+#[derive(Clone, Copy, PartialEq, Eq, PartialOrd, Ord, Debug)]
+pub enum Kind {
+    Open,
+    Create,
+    Write,
+    Complete,
+    Ask,
+    Count,
+}
+
+/// All that the refusal tests look at besides the table. A call leaves out what it has not.
+#[derive(Default)]
+pub struct Asked<'a> {
+    pub sizes_wrong: bool,
+    pub block: u32,
+    pub offset: u32,
+    pub length: usize,
+    pub numbers: &'a [u32],
+}
+
+/// The clauses of "It is sound when".
+#[derive(Clone, Copy, PartialEq, Eq, Debug)]
+pub enum Clause {
+    First,
+    Next,
+    NumbersIssued,
+    NumbersDiffer,
+    Blocks,
+    Lengths,
+    Ends,
+    BeforesUsed,
+    BeforesNotOwn,
+    Rooms,
+    RoomsDiffer,
+}
+
+pub const CLAUSES: [Clause; 11] = [
+    Clause::First,
+    Clause::Next,
+    Clause::NumbersIssued,
+    Clause::NumbersDiffer,
+    Clause::Blocks,
+    Clause::Lengths,
+    Clause::Ends,
+    Clause::BeforesUsed,
+    Clause::BeforesNotOwn,
+    Clause::Rooms,
+    Clause::RoomsDiffer,
+];
+
+impl Slot {
+    pub fn free() -> Slot {
+        Slot { state: State::Free, number: 0, block: 0, offset: 0, length: 0, befores: Slots::new() }
+    }
+
+    pub fn used(&self) -> bool {
+        self.state != State::Free
+    }
+
+    pub fn waiting(&self) -> bool {
+        matches!(self.state, State::WaitingHard | State::WaitingSoft { .. })
+    }
+
+    pub fn in_flight(&self) -> bool {
+        matches!(self.state, State::InFlightHard | State::InFlightSoft)
+    }
+
+    pub fn room(&self) -> Option<u32> {
+        match self.state {
+            State::WaitingSoft { room } => Some(room),
+            _ => None,
+        }
+    }
+
+    /// The first byte after the patch, counted from the start of its block.
+    pub fn end(&self) -> u64 {
+        u64::from(self.offset) + u64::from(self.length)
+    }
+}
+
+impl Table {
+    pub fn empty(first: u32) -> Table {
+        Table { first, next: first, slots: vec![Slot::free(); SLOTS] }
+    }
+
+    /// The used slots with what they hold.
+    pub fn patches(&self) -> impl Iterator<Item = (usize, &Slot)> {
+        self.slots.iter().enumerate().filter(|(_, slot)| slot.used())
+    }
+
+    pub fn waiting(&self, block: u32) -> Slots {
+        self.patches().filter(|(_, p)| p.block == block && p.waiting()).map(|(i, _)| i).collect()
+    }
+
+    pub fn in_flight(&self, block: u32) -> Slots {
+        self.patches().filter(|(_, p)| p.block == block && p.in_flight()).map(|(i, _)| i).collect()
+    }
+
+    pub fn hard_waiting(&self, block: u32) -> Slots {
+        self.waiting(block).into_iter().filter(|&i| self.slots[i].state == State::WaitingHard).collect()
+    }
+
+    pub fn slot_of(&self, number: u32) -> Option<usize> {
+        self.patches().find(|(_, p)| p.number == number).map(|(i, _)| i)
+    }
+
+    pub fn rooms_taken(&self) -> Vec<u32> {
+        self.patches().filter_map(|(_, p)| p.room()).collect()
+    }
+}

@@ -1,0 +1,255 @@
+//! Tells the coverage what a call reached, from the table before it and its answer.
+
+use crate::bytes::{SLOT_BYTES, TABLE_BYTES, set_of};
+use crate::cover::Cover;
+use crate::model::{Model, Right};
+use crate::steps::{Answer, Buffer, Call, Step, exact_size};
+use crate::table::*;
+
+/// `table` is the table before the call, `lent` its bytes as the call got them.
+pub fn see(cover: &mut Cover, table: Option<&Table>, lent: &[u8], step: &Step, answer: &Answer) {
+    cover.add(answered(step.kind()), answer.refusal);
+    for &(buffer, size) in &step.odd {
+        see_odd(cover, step.kind(), buffer, size);
+    }
+    let Some(table) = table else {
+        let odd_length = lent.len() != TABLE_BYTES;
+        cover.add(if odd_length { "table of another length" } else { "a tag above 4" }, 0);
+        return;
+    };
+    match (&step.call, answer.refusal) {
+        (Call::Open { .. }, _) => {}
+        (Call::Create { block, offset, data, named }, 0) => {
+            let change = Change { block: *block, offset: *offset, data, named };
+            see_create(cover, table, &change, answer);
+            see_befores(cover, table, &change);
+        }
+        (Call::Write { block }, 0) => see_write(cover, table, *block, &set_of(answer.set)),
+        (Call::Complete { block }, 0) => see_complete(cover, table, *block, lent),
+        (Call::Ask { .. }, 0) => cover.add("ask: state", answer.state),
+        (Call::Count { block }, 0) => see_count(cover, table, *block, answer.count),
+        (_, refusal) => see_refused(cover, table, step, refusal),
+    }
+}
+
+fn when(cover: &mut Cover, reached: bool, name: &'static str) {
+    if reached {
+        cover.add(name, 0);
+    }
+}
+
+fn answered(kind: Kind) -> &'static str {
+    match kind {
+        Kind::Open => "open answered",
+        Kind::Create => "create answered",
+        Kind::Write => "write answered",
+        Kind::Complete => "complete answered",
+        Kind::Ask => "ask answered",
+        Kind::Count => "count answered",
+    }
+}
+
+fn see_odd(cover: &mut Cover, kind: Kind, buffer: Buffer, size: usize) {
+    let short = size < exact_size(buffer);
+    let name = match (buffer, short) {
+        (Buffer::Table, _) => return,
+        (Buffer::Image, true) => "buffer too short: image",
+        (Buffer::Image, false) => "buffer too long: image",
+        (Buffer::Undo, true) => "buffer too short: undo area",
+        (Buffer::Undo, false) => "buffer too long: undo area",
+        (Buffer::Handed, true) => "buffer too short: block handed out",
+        (Buffer::Handed, false) => "buffer too long: block handed out",
+    };
+    when(cover, matches!(kind, Kind::Create | Kind::Write), name);
+}
+
+fn see_create(cover: &mut Cover, table: &Table, change: &Change, answer: &Answer) {
+    let waiting = table.waiting(change.block);
+    let soft = waiting.iter().filter(|&&i| table.slots[i].room().is_some()).count();
+    if answer.hold == 1 {
+        cover.add("create: hard", 0);
+        when(cover, soft >= 1, "create: hard, some soft turned hard");
+        when(cover, soft >= 2, "create: hard, two or more soft turned hard");
+        let flying = table.in_flight(change.block);
+        let followed =
+            table.patches().any(|(_, p)| p.block != change.block && !p.befores.is_disjoint(&flying));
+        when(cover, followed, "create: hard, only one in flight is followed from elsewhere");
+        let elsewhere = table.rooms_taken().len() > soft;
+        when(cover, elsewhere, "create: hard, a soft one of another block stays soft");
+    } else {
+        let room = answer.hold - 2;
+        cover.add("create: soft in room", room);
+        let higher = table.rooms_taken().iter().any(|&taken| taken > room);
+        when(cover, higher, "create: soft, a lower room taken again");
+    }
+    let slot = table.slots.iter().position(|slot| !slot.used()).unwrap_or(0);
+    cover.add("create: in slot", slot as u32);
+    let higher = table.patches().any(|(i, _)| i > slot);
+    when(cover, higher, "create: a lower slot taken again");
+    when(cover, table.slots[slot] != Slot::free(), "create: into a slot with remains");
+    let length = change.data.len();
+    when(cover, length == 1, "create: length 1");
+    when(cover, length == LONGEST_DATA, "create: length 64");
+    let end = change.offset as usize + length;
+    when(cover, end == BLOCK_BYTES, "create: ends with the block");
+    let last = change.block == LAST_BLOCK && end == BLOCK_BYTES;
+    when(cover, last, "create: in the last 64 bytes of the image");
+    when(cover, answer.number == LAST_NUMBER, "create: number 1,000,000,000");
+}
+
+fn see_befores(cover: &mut Cover, table: &Table, change: &Change) {
+    let (start, end) = (u64::from(change.offset), u64::from(change.offset) + change.data.len() as u64);
+    cover.add("create: so many numbers named", change.named.len() as u32);
+    for (_, patch) in table.patches() {
+        let shares = u64::from(patch.offset) < end && start < patch.end();
+        let here = patch.block == change.block;
+        let named = change.named.contains(&patch.number);
+        when(cover, here && shares, "create: overlap is a before");
+        when(cover, here && shares && patch.in_flight(), "create: overlap with one in flight is a before");
+        let touches = u64::from(patch.offset) == end || start == patch.end();
+        when(cover, here && touches && !named, "create: only touching, no before");
+        when(cover, !here && shares && !named, "create: same range on another block, no before");
+        when(cover, named, "create: named is a before");
+        when(cover, named && patch.in_flight(), "create: named and in flight is a before");
+        when(cover, named && here && shares, "create: named and overlapping");
+    }
+    let committed = change.named.iter().any(|&number| table.slot_of(number).is_none());
+    when(cover, committed, "create: committed name dropped");
+    let twice = (1..change.named.len()).any(|i| change.named[..i].contains(&change.named[i]));
+    when(cover, twice, "create: number named twice");
+}
+
+fn see_write(cover: &mut Cover, table: &Table, block: u32, sent: &Slots) {
+    let waiting = table.waiting(block);
+    let left: Vec<&Slot> = waiting.difference(sent).map(|&i| &table.slots[i]).collect();
+    let share = |a: &Slot, b: &Slot| u64::from(a.offset) < b.end() && u64::from(b.offset) < a.end();
+    let overlap = (1..left.len()).any(|i| left[..i].iter().any(|p| share(p, left[i])));
+    let hard = sent.iter().filter(|&&i| table.slots[i].state == State::WaitingHard).count();
+    let with_before = sent.iter().any(|&i| !table.slots[i].befores.is_empty());
+    when(cover, left.is_empty(), "write: all went");
+    when(cover, hard > 0 && hard < sent.len(), "write: hard and soft went together");
+    when(cover, with_before, "write: one went with its before");
+    when(cover, !left.is_empty(), "write: soft left behind");
+    when(cover, left.len() >= 2, "write: two or more left behind");
+    when(cover, overlap, "write: two left behind overlap");
+    let (rounds, _) = rounds_of_striking(table, block);
+    when(cover, rounds >= 2, "write: striking takes two rounds or more");
+    when(cover, rounds >= 3, "write: striking takes three rounds or more");
+    when(cover, waiting.len() <= FEW, "write: every subset tried");
+    when(cover, waiting.len() > FEW, "write: befores followed");
+    let circle = |&i: &usize| Right.all_that_stands_before(table, i).contains(&i);
+    let later =
+        |&&i: &&usize| table.slots[i].befores.iter().any(|&b| table.slots[b].number > table.slots[i].number);
+    let in_circle = sent.iter().filter(later).any(circle);
+    when(cover, in_circle, "write: befores in a circle went");
+}
+
+/// How many rounds strike something, and whether a hard patch is struck only after the first.
+fn rounds_of_striking(table: &Table, block: u32) -> (usize, bool) {
+    let mut left = table.waiting(block);
+    let (mut rounds, mut hard_struck, mut late) = (0, false, false);
+    loop {
+        let held = |&i: &usize| !table.slots[i].befores.is_subset(&left);
+        let struck: Slots = left.iter().copied().filter(held).collect();
+        if struck.is_empty() {
+            return (rounds, late);
+        }
+        rounds += 1;
+        if struck.iter().any(|&i| table.slots[i].state == State::WaitingHard) {
+            late = late || (rounds >= 2 && !hard_struck);
+            hard_struck = true;
+        }
+        left.retain(|i| !struck.contains(i));
+    }
+}
+
+fn see_complete(cover: &mut Cover, table: &Table, block: u32, lent: &[u8]) {
+    let flying = table.in_flight(block);
+    let follows = table.patches().any(|(_, p)| p.block != block && !p.befores.is_disjoint(&flying));
+    when(cover, follows, "complete: a before elsewhere removed");
+    when(cover, flying.len() >= 2, "complete: two or more commit");
+    when(cover, !table.waiting(block).is_empty(), "complete: others of the block wait on");
+    let remains = |slot: &&Slot| !slot.used() && !slot.befores.is_disjoint(&flying);
+    when(cover, table.slots.iter().any(|slot| remains(&slot)), "complete: remains in free slots kept");
+    let room_field = |i: usize| lent[8 + i * SLOT_BYTES + 4] != 0;
+    let unread = (0..SLOTS).any(|i| table.slots[i].room().is_none() && room_field(i));
+    when(cover, unread, "a room field that is not read");
+}
+
+fn see_count(cover: &mut Cover, table: &Table, block: u32, count: u32) {
+    when(cover, count == 0, "count: 0");
+    when(cover, count > 0, "count: more than 0");
+    let flying = !table.in_flight(block).is_empty();
+    when(cover, count > 0 && flying, "count: more than 0, some in flight");
+}
+
+fn see_refused(cover: &mut Cover, table: &Table, step: &Step, refusal: u32) {
+    let later_name = match step.kind() {
+        Kind::Open => return,
+        Kind::Create => "create refused so, a later test held too",
+        Kind::Write => "write refused so, a later test held too",
+        Kind::Complete => "complete refused so, a later test held too",
+        Kind::Ask => "ask refused so, a later test held too",
+        Kind::Count => "count refused so, a later test held too",
+    };
+    let number;
+    let asked = match &step.call {
+        Call::Create { block, offset, data, named } => {
+            see_refused_create(cover, table, step, refusal);
+            Asked { block: *block, offset: *offset, length: data.len(), numbers: named, ..Asked::default() }
+        }
+        Call::Write { block } | Call::Complete { block } | Call::Count { block } => {
+            Asked { block: *block, ..Asked::default() }
+        }
+        Call::Ask { number: n } | Call::Open { first: n } => {
+            number = [*n];
+            Asked { numbers: &number, ..Asked::default() }
+        }
+    };
+    let later = |&&test: &&u32| test > refusal && Right.holds(test, table, &asked);
+    if Right.tests(step.kind()).iter().find(later).is_some() {
+        cover.add(later_name, refusal);
+    }
+    match refusal {
+        2 => see_unsound(cover, table),
+        13 => see_held(cover, table, asked.block),
+        _ => {}
+    }
+}
+
+fn see_refused_create(cover: &mut Cover, table: &Table, step: &Step, refusal: u32) {
+    let Call::Create { offset, data, named, .. } = &step.call else { return };
+    let sum = u64::from(*offset) + data.len() as u64;
+    match refusal {
+        4 => when(cover, data.len() == 65, "create: refused 4, length 65"),
+        5 => {
+            when(cover, *offset == u32::MAX, "create: refused 5, offset 4,294,967,295");
+            when(cover, sum == 257, "create: refused 5, offset + length is 257");
+            when(cover, sum > u64::from(u32::MAX), "create: refused 5, the sum wraps in 32 bits");
+        }
+        6 => when(cover, named.len() == 9, "create: refused 6, nine named"),
+        7 => {
+            when(cover, named.contains(&table.next), "create: refused 7, its own coming number");
+            when(cover, named.contains(&(table.first - 1)), "create: refused 7, first - 1");
+        }
+        _ => {}
+    }
+}
+
+fn see_unsound(cover: &mut Cover, table: &Table) {
+    let broken: Vec<usize> = (0..CLAUSES.len()).filter(|&i| !Right.clause_holds(CLAUSES[i], table)).collect();
+    if let [alone] = broken[..] {
+        cover.add("unsound by one clause alone", alone as u32);
+    }
+}
+
+fn see_held(cover: &mut Cover, table: &Table, block: u32) {
+    let hard = table.hard_waiting(block);
+    when(cover, !hard.is_empty(), "write: refused 13, a hard one held");
+    when(cover, hard.is_empty(), "write: refused 13, only soft wait");
+    let waiting = table.waiting(block);
+    let before = |&i: &usize| table.slots[i].befores.iter().any(|&b| table.slots[b].in_flight());
+    when(cover, waiting.iter().any(before), "write: refused 13, held by one in flight");
+    let (_, late) = rounds_of_striking(table, block);
+    when(cover, late, "write: refused 13, hard one struck after the first round");
+}
