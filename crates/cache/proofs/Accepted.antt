@@ -15,7 +15,7 @@ use Rattle.rules.specs.declared.Slot.{Slot}
 use Rattle.rules.specs.Sizes.{roomStart, blocks, blockBytes, imageBytes, undoBytes, slots, mostBytes, mostNamed, lastNumber}
 use Rattle.rules.specs.Table.{Table, Sound}
 use Rattle.rules.specs.Create.{Change, Lowest, FreeSlot, HoldOf, accepted, changed, kept}
-use Rattle.rules.specs.Refusals.{case, First, WrongSize, WrongLength, NamesUnissued, NoSlot, NoRoom, createCases}
+use Rattle.rules.specs.Refusals.{Case, case, First, WrongSize, Unsound, NoBlock, WrongLength, PastEnd, NamesUnissued, NoSlot, NoRoom, createCases}
 use Rattle.rules.specs.Calls.{Creates, createRefused, createGranted}
 use Rattle.rules.proofs.Cases.{holds, passes, none-holds}
 use Rattle.rules.proofs.Outcomes.{refuses, grants}
@@ -51,38 +51,51 @@ module _ (t : Table) (image undo : List ℕ) (c : Change) where
           pub create-past-end : blockBytes < c .offset + length (c .bytes) → Create-judged 5
           create-past-end l = judged 5 (λ e. omega arith) (passes sizes (passes (λ n. n s) (passes (λ m. omega arith) (passes lengths (holds l)))))
 
-          module _ (ends : c .offset + length (c .bytes) ≤ blockBytes) where
-            pub create-many-named : mostNamed < length (c .named) → Create-judged 6
-            create-many-named l = judged 6 (λ e. omega arith) (passes sizes (passes (λ n. n s) (passes (λ m. omega arith) (passes lengths (passes (λ m. omega arith) (holds l))))))
+  -- none of 1 to 5 holds
+  pub record Past5 : Type 0 where
+    pub image-whole : length image ≡ imageBytes
+    pub undo-whole : length undo ≡ undoBytes
+    pub sound : Sound t
+    pub is-block : c .block < blocks
+    pub least : length (c .bytes) ≡ 0 → ⊥
+    pub most : length (c .bytes) ≤ mostBytes
+    pub ends : c .offset + length (c .bytes) ≤ blockBytes
 
-            module _ (few : length (c .named) ≤ mostNamed) where
-              pub create-unissued : NamesUnissued t c → Create-judged 7
-              create-unissued n =
-                  judged 7 (λ e. omega arith)
-                  (passes sizes (passes (λ n. n s) (passes (λ m. omega arith) (passes lengths (passes (λ m. omega arith) (passes (λ m. omega arith) (holds n)))))))
+  module _ (p : Past5) where
+    past5 : {k : ℕ} {rest : List Case} → First rest k
+        → First (case 1 (WrongSize imageBytes image ⊎ WrongSize undoBytes undo) ∷ case 2 (Unsound t) ∷ case 3 (NoBlock (c .block)) ∷ case 4 (WrongLength c) ∷ case 5 (PastEnd c) ∷ rest) k
+    past5 f =
+        passes (sizes (p .image-whole) (p .undo-whole))
+        (passes (λ n. n (p .sound))
+        (passes (λ m. omega (arith, p .is-block)) (passes (⊎-elim (p .least) (λ l. omega (arith, p .most))) (passes (λ m. omega (arith, p .ends)) f))))
 
-              module _ (issued : NamesUnissued t c → ⊥) where
-                pub create-no-number : t .next ≡ lastNumber + 1 → Create-judged 8
-                create-no-number n =
-                    judged 8 (λ e. omega arith)
-                    (passes sizes (passes (λ n. n s) (passes (λ m. omega arith) (passes lengths (passes (λ m. omega arith) (passes (λ m. omega arith) (passes issued (holds n))))))))
+    pub create-many-named : mostNamed < length (c .named) → Create-judged 6
+    create-many-named l = judged 6 (λ e. omega arith) (past5 (holds l))
 
-                pub create-ready : (t .next ≡ lastNumber + 1 → ⊥) → Create-judged 0
-                create-ready n = record {
-                  refused = λ d. absurd (d refl);
-                  ready = λ z. record {
-                    image-whole = i;
-                    undo-whole = u;
-                    sound = s;
-                    is-block = b;
-                    len-least = omega (arith, least);
-                    len-most = most;
-                    ends = ends;
-                    few-named = few;
-                    issued = issued;
-                    last = omega (arith, n, s .next-most);
-                  };
-                }
+    module _ (few : length (c .named) ≤ mostNamed) where
+      pub create-unissued : NamesUnissued t c → Create-judged 7
+      create-unissued n = judged 7 (λ e. omega arith) (past5 (passes (λ m. omega arith) (holds n)))
+
+      module _ (issued : NamesUnissued t c → ⊥) where
+        pub create-no-number : t .next ≡ lastNumber + 1 → Create-judged 8
+        create-no-number n = judged 8 (λ e. omega arith) (past5 (passes (λ m. omega arith) (passes issued (holds n))))
+
+        pub create-ready : (t .next ≡ lastNumber + 1 → ⊥) → Create-judged 0
+        create-ready n = record {
+          refused = λ d. absurd (d refl);
+          ready = λ z. record {
+            image-whole = p .image-whole;
+            undo-whole = p .undo-whole;
+            sound = p .sound;
+            is-block = p .is-block;
+            len-least = omega (arith, p .least);
+            len-most = p .most;
+            ends = p .ends;
+            few-named = few;
+            issued = issued;
+            last = omega (arith, n, p .sound .next-most);
+          };
+        }
 
   pub create-refused : (k : ℕ) → (k ≡ 0 → ⊥) → Create-judged k → Creates t image undo c (createRefused t image undo k)
   create-refused k d j = refuses k (j .refused d) refl d
@@ -91,14 +104,9 @@ module _ (t : Table) (image undo : List ℕ) (c : Change) where
     -- past the early refusals only 9 and 10 are left
     late : {k : ℕ} → First (case 9 (NoSlot (t .slots)) ∷ case 10 (NoRoom (t .slots) c) ∷ []) k → First (createCases t image undo c) k
     late f =
-        passes (sizes (r .image-whole) (r .undo-whole))
-        (passes (λ n. n (r .sound))
-        (passes (λ m. omega (arith, r .is-block))
-        (passes (⊎-elim (λ e. omega (arith, r .len-least)) (λ l. omega (arith, r .len-most)))
-        (passes (λ m. omega (arith, r .ends))
-        (passes (λ m. omega (arith, r .few-named))
-        (passes (r .issued)
-        (passes (λ m. omega (arith, r .last)) f)))))))
+        past5
+        (record { image-whole = r .image-whole; undo-whole = r .undo-whole; sound = r .sound; is-block = r .is-block; least = λ e. omega (arith, r .len-least); most = r .len-most; ends = r .ends })
+        (passes (λ m. omega (arith, r .few-named)) (passes (r .issued) (passes (λ m. omega (arith, r .last)) f)))
 
     pub create-no-slot : NoSlot (t .slots) → Creates t image undo c (createRefused t image undo 9)
     create-no-slot n = refuses 9 (late (holds n)) refl (λ e. omega arith)

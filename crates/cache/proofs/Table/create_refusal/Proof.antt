@@ -2,10 +2,11 @@
 use mathlib.Core.Logic.{inl, inr}
 use native.Mathlib.Omega.{arith}
 use borrow.Author.Needs.{needs}
+use denote.Ref.{now}
 use Rattle.masks.proofs.Decided.{yes-of, no-of, yes-not, no-not}
 use Rattle.rules.specs.Table.{Sound}
 use Rattle.cache.specs.Seen.{seen}
-use Rattle.cache.proofs.Accepted.{create-wrong-size, create-unsound, create-no-block, create-wrong-length, create-past-end, create-many-named, create-unissued, create-no-number, create-ready}
+use Rattle.cache.proofs.Accepted.{create-wrong-size, create-unsound, create-no-block, create-wrong-length, create-past-end, Past5, create-many-named, create-unissued, create-no-number, create-ready}
 use Rattle.cache.proofs.Table.create_refusal.Statement.{statement}
 use Rattle.cache.proofs.Table.create_refusal.Tie as tie
 
@@ -61,16 +62,27 @@ returns-7 c =
     create-past-end _ _ _ _ (e2 .before .if1 .left) (e2 .if2 .left) (sound-here e3) (omega (arith, e4 .if4 .left)) (e5 .if5 .left) (e6 .if6 .left)
     (omega (arith, c .if7 .taken, e6 .if6 .left))
 
-returns-8 : tie.Need-returns-8
-returns-8 c =
-    let e7 = c .before in
-    let e6 = e7 .before in
+-- where none of 1 to 5 holds
+past-here : (c : tie.Else7) → let a = c .before .before .before .before .before .before .before .before .before .before .before .before .before .args in
+    Past5 (seen (a .self)) (now (a .image)) (now (a .undo)) (record { block = a .block; offset = a .offset; bytes = now (a .bytes); named = now (a .named) })
+past-here c =
+    let e6 = c .before in
     let e5 = e6 .before in
     let e4 = e5 .before in
     let e3 = e4 .before in
     let e2 = e3 .before .before .before in
-    create-many-named _ _ _ _ (e2 .before .if1 .left) (e2 .if2 .left) (sound-here e3) (omega (arith, e4 .if4 .left)) (e5 .if5 .left) (e6 .if6 .left)
-    (omega (arith, e7 .if7 .left, e6 .if6 .left)) (c .if8 .taken)
+    record {
+      image-whole = e2 .before .if1 .left;
+      undo-whole = e2 .if2 .left;
+      sound = sound-here e3;
+      is-block = omega (arith, e4 .if4 .left);
+      least = e5 .if5 .left;
+      most = e6 .if6 .left;
+      ends = omega (arith, c .if7 .left, e6 .if6 .left);
+    }
+
+returns-8 : tie.Need-returns-8
+returns-8 c = create-many-named _ _ _ _ (past-here (c .before)) (c .if8 .taken)
 
 unissued-requires : tie.Need-unissued-requires
 unissued-requires c κs = search needs
@@ -78,40 +90,19 @@ unissued-requires c κs = search needs
 returns-9 : tie.Need-returns-9
 returns-9 c =
     let e8 = c .before .before in
-    let e7 = e8 .before in
-    let e6 = e7 .before in
-    let e5 = e6 .before in
-    let e4 = e5 .before in
-    let e3 = e4 .before in
-    let e2 = e3 .before .before .before in
-    create-unissued _ _ _ _ (e2 .before .if1 .left) (e2 .if2 .left) (sound-here e3) (omega (arith, e4 .if4 .left)) (e5 .if5 .left) (e6 .if6 .left)
-    (omega (arith, e7 .if7 .left, e6 .if6 .left)) (e8 .if8 .left) (yes-of (c .before .unissued .result) (c .before .unissued .ensures) (c .if9 .taken))
+    create-unissued _ _ _ _ (past-here (e8 .before)) (e8 .if8 .left) (yes-of (c .before .unissued .result) (c .before .unissued .ensures) (c .if9 .taken))
 
 returns-10 : tie.Need-returns-10
 returns-10 c =
     let e9 = c .before .before in
     let e8 = e9 .before .before in
-    let e7 = e8 .before in
-    let e6 = e7 .before in
-    let e5 = e6 .before in
-    let e4 = e5 .before in
-    let e3 = e4 .before in
-    let e2 = e3 .before .before .before in
-    create-no-number _ _ _ _ (e2 .before .if1 .left) (e2 .if2 .left) (sound-here e3) (omega (arith, e4 .if4 .left)) (e5 .if5 .left) (e6 .if6 .left)
-    (omega (arith, e7 .if7 .left, e6 .if6 .left)) (e8 .if8 .left) (no-of (e9 .before .unissued .result) (e9 .before .unissued .ensures) (e9 .if9 .left)) (c .if10 .taken)
+    create-no-number _ _ _ _ (past-here (e8 .before)) (e8 .if8 .left) (no-of (e9 .before .unissued .result) (e9 .before .unissued .ensures) (e9 .if9 .left)) (c .if10 .taken)
 
 returns-11 : tie.Need-returns-11
 returns-11 c =
     let e9 = c .before .before in
     let e8 = e9 .before .before in
-    let e7 = e8 .before in
-    let e6 = e7 .before in
-    let e5 = e6 .before in
-    let e4 = e5 .before in
-    let e3 = e4 .before in
-    let e2 = e3 .before .before .before in
-    create-ready _ _ _ _ (e2 .before .if1 .left) (e2 .if2 .left) (sound-here e3) (omega (arith, e4 .if4 .left)) (e5 .if5 .left) (e6 .if6 .left)
-    (omega (arith, e7 .if7 .left, e6 .if6 .left)) (e8 .if8 .left) (no-of (e9 .before .unissued .result) (e9 .before .unissued .ensures) (e9 .if9 .left)) (c .if10 .left)
+    create-ready _ _ _ _ (past-here (e8 .before)) (e8 .if8 .left) (no-of (e9 .before .unissued .result) (e9 .before .unissued .ensures) (e9 .if9 .left)) (c .if10 .left)
 
 pub create-refusal-spec : {M : Type 1} → statement M
 create-refusal-spec =
