@@ -6,6 +6,7 @@ pub mod Lowest
 pub mod Largest
 pub mod TakenBack
 pub mod Pins
+pub mod Refused
 pub mod Grants
 pub mod OneAnswer
 pub mod StaysSound

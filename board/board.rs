@@ -1,0 +1,97 @@
+//! The write-before cache for Rust: a thin wrapper over libboard.a, proved in crates/board. Copy it into a crate that
+//! links the archive. The sizes are types, so refusal 1 and "no table for its length" cannot come; every other refusal
+//! of board.h is answered as `Err` with its number, and nothing else is tested here.
+
+pub const TABLE: usize = 2056;
+pub const IMAGE: usize = 16384;
+pub const UNDO: usize = 1024;
+pub const BLOCK: usize = 256;
+
+/// Kept by the caller, also over sleep; board.h has the layout.
+pub type Table = [u8; TABLE];
+
+#[derive(Clone, Copy, Debug, PartialEq, Eq)]
+pub enum Hold {
+    Hard,
+    Soft { room: u32 },
+}
+
+#[derive(Clone, Copy, Debug, PartialEq, Eq)]
+pub enum State {
+    Waiting,
+    InFlight,
+    Committed,
+}
+
+extern "C" {
+    fn board_open(table: *mut u8, table_len: usize, first: u32) -> u32;
+    fn board_create(
+        table: *mut u8, table_len: usize, image: *mut u8, image_len: usize, undo: *mut u8, undo_len: usize,
+        block: u32, offset: u32, bytes: *const u8, bytes_len: usize, named: *const u32, named_len: usize,
+        number: *mut u32, hold: *mut u32,
+    ) -> u32;
+    fn board_write(
+        table: *mut u8, table_len: usize, image: *const u8, image_len: usize, undo: *const u8, undo_len: usize,
+        handed: *mut u8, handed_len: usize, block: u32, set: *mut u64,
+    ) -> u32;
+    fn board_complete(table: *mut u8, table_len: usize, block: u32) -> u32;
+    fn board_ask(table: *const u8, table_len: usize, asked: u32, state: *mut u32) -> u32;
+    fn board_count(table: *const u8, table_len: usize, block: u32, count: *mut u32) -> u32;
+}
+
+fn granted<T>(refusal: u32, answer: T) -> Result<T, u32> {
+    if refusal == 0 { Ok(answer) } else { Err(refusal) }
+}
+
+/// An empty table whose first number is `first`. Refused 15, `table` is the empty one with first 1.
+pub fn open(table: &mut Table, first: u32) -> Result<(), u32> {
+    // SAFETY: a reference is valid for its array, and the callee keeps no pointer. So in each function below, where the
+    // borrow checker besides keeps the lent arrays apart.
+    granted(unsafe { board_open(table.as_mut_ptr(), TABLE, first) }, ())
+}
+
+/// A change, after those named: its number, and hard or soft. Refused 2 to 10.
+pub fn create(
+    table: &mut Table, image: &mut [u8; IMAGE], undo: &mut [u8; UNDO], block: u32, offset: u32, bytes: &[u8], named: &[u32],
+) -> Result<(u32, Hold), u32> {
+    let (mut number, mut hold) = (0, 0);
+    let refusal = unsafe {
+        board_create(
+            table.as_mut_ptr(), TABLE, image.as_mut_ptr(), IMAGE, undo.as_mut_ptr(), UNDO, block, offset,
+            bytes.as_ptr(), bytes.len(), named.as_ptr(), named.len(), &mut number, &mut hold,
+        )
+    };
+    granted(refusal, (number, if hold < 2 { Hold::Hard } else { Hold::Soft { room: hold - 2 } }))
+}
+
+/// The bytes to send to the block now, in `handed`, and the set of slots sent. Refused 2, 3, 11 to 13.
+pub fn write(
+    table: &mut Table, image: &[u8; IMAGE], undo: &[u8; UNDO], handed: &mut [u8; BLOCK], block: u32,
+) -> Result<u64, u32> {
+    let mut set = 0;
+    let refusal = unsafe {
+        board_write(
+            table.as_mut_ptr(), TABLE, image.as_ptr(), IMAGE, undo.as_ptr(), UNDO, handed.as_mut_ptr(), BLOCK, block, &mut set,
+        )
+    };
+    granted(refusal, set)
+}
+
+/// The block has landed. Refused 2, 3, 14.
+pub fn complete(table: &mut Table, block: u32) -> Result<(), u32> {
+    granted(unsafe { board_complete(table.as_mut_ptr(), TABLE, block) }, ())
+}
+
+/// Where the change with the number is. Refused 2, 7.
+pub fn ask(table: &Table, asked: u32) -> Result<State, u32> {
+    let mut state = 0;
+    let refusal = unsafe { board_ask(table.as_ptr(), TABLE, asked, &mut state) };
+    granted(refusal, match state { 1 => State::Waiting, 2 => State::InFlight, _ => State::Committed })
+}
+
+/// How many changes of the block wait. Refused 2, 3.
+pub fn count(table: &Table, block: u32) -> Result<u32, u32> {
+    let mut count = 0;
+    let refusal = unsafe { board_count(table.as_ptr(), TABLE, block, &mut count) };
+    granted(refusal, count)
+}

@@ -1,0 +1,75 @@
+-- `calls::board_complete` meets its contract. Assumes nothing.
+use mathlib.Core.Path.{_≡_}
+use denote.Ref.{now}
+use Rattle.masks.proofs.Decided.{yes-not, no-not}
+use Rattle.cache.specs.Seen.{seen, completion}
+use Rattle.board.specs.Layout.{IsTable, tableIn}
+use Rattle.board.proofs.Answers.{complete-none, complete-granted-here, complete-refused-here}
+use borrow.Author.Needs.{needs}
+use Rattle.board.proofs.calls.board_complete.Statement.{statement}
+use Rattle.board.proofs.calls.board_complete.Tie as tie
+
+is-table-requires : tie.Need-is-table-requires
+is-table-requires c κs = search needs
+
+same-length : tie.Need-same-length
+same-length c = search needs
+
+-- where the bytes have been found to be a table, and the table that is read
+table-here : (c : tie.Else1) → IsTable (now (c .before .before .before .before .args .table))
+table-here c = yes-not (c .before .is-table .result) (c .before .is-table .ensures) (c .if1 .left)
+
+seen-here : (c : tie.After-table-in) → seen (c .table-in .result) ≡ tableIn (now (c .before .before .before .before .before .before .args .table))
+seen-here c = c .table-in .ensures (table-here (c .before .before) .size)
+
+returns : tie.Need-returns
+returns c = complete-none _ _ (no-not (c .before .is-table .result) (c .before .is-table .ensures) (c .if1 .taken))
+
+table-in-requires : tie.Need-table-in-requires
+table-in-requires c κs = search needs
+
+complete-requires : tie.Need-complete-requires
+complete-requires c κs = search needs
+
+enum-told : tie.Need-enum-told
+enum-told c = search needs
+
+store-requires : tie.Need-store-requires
+store-requires c κs = search needs
+
+enum-known-answer : tie.Need-enum-known-answer
+enum-known-answer c = search needs
+
+same-length-2 : tie.Need-same-length-2
+same-length-2 c = search needs
+
+returns-2 : tie.Need-returns-2
+returns-2 c =
+    let r = c .before .before .before .before .before .before .before in
+    let i = table-here (r .before .before .before) in
+    complete-granted-here (completion (r .complete .result)) i (seen-here (r .before)) (r .complete .ensures) (c .before .before .before .before .before .enum-told .given .1) (c .before .before .store .ensures (i .size))
+
+same-length-3 : tie.Need-same-length-3
+same-length-3 c = search needs
+
+returns-3 : tie.Need-returns-3
+returns-3 c =
+    let r = c .before .before .before in
+    complete-refused-here (completion (r .complete .result)) (table-here (r .before .before .before)) (seen-here (r .before)) (r .complete .ensures) (c .before .answer .given .0 .0) (c .before .answer .given .1)
+
+pub board-complete-spec : {M : Type 1} → statement M
+board-complete-spec =
+    tie.close
+    (tie.spec
+    is-table-requires
+    same-length
+    returns
+    table-in-requires
+    complete-requires
+    enum-told
+    store-requires
+    enum-known-answer
+    same-length-2
+    returns-2
+    same-length-3
+    returns-3)

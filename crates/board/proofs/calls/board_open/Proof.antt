@@ -1,0 +1,52 @@
+-- `calls::board_open` meets its contract. Assumes nothing.
+use Rattle.rules.specs.declared.Answer.the-variants as plain
+use Rattle.cache.specs.Seen.{opening}
+use Rattle.board.proofs.Answers.{open-other, open-here}
+use borrow.Author.Needs.{needs}
+use Rattle.board.proofs.calls.board_open.Statement.{statement}
+use Rattle.board.proofs.calls.board_open.Tie as tie
+
+returns : tie.Need-returns
+returns c = open-other _ _ (c .if1 .taken)
+
+open-requires : tie.Need-open-requires
+open-requires c κs = search needs
+
+store-requires : tie.Need-store-requires
+store-requires c κs = search needs
+
+enum-told : tie.Need-enum-told
+enum-told c = search needs
+
+enum-known-answer : tie.Need-enum-known-answer
+enum-known-answer c = search needs
+
+same-length : tie.Need-same-length
+same-length c = search needs
+
+returns-2 : tie.Need-returns-2
+returns-2 c =
+    let o = c .before .before .before .before .before .before .before in
+    open-here (opening (o .«open» .result)) plain.Granted (o .before .if1 .left) (o .«open» .ensures) (c .enum-told .given .1) (c .before .before .before .before .store .ensures (o .before .if1 .left))
+
+same-length-2 : tie.Need-same-length-2
+same-length-2 c = search needs
+
+returns-3 : tie.Need-returns-3
+returns-3 c =
+    let o = c .before .before .before .before .before .before .before .before in
+    open-here (opening (o .«open» .result)) (plain.Refused (c .before .answer .given .0 .0)) (o .before .if1 .left) (o .«open» .ensures) (c .before .answer .given .1) (c .before .before .before .before .before .store .ensures (o .before .if1 .left))
+
+pub board-open-spec : {M : Type 1} → statement M
+board-open-spec =
+    tie.close
+    (tie.spec
+    returns
+    open-requires
+    store-requires
+    enum-told
+    enum-known-answer
+    same-length
+    returns-2
+    same-length-2
+    returns-3)

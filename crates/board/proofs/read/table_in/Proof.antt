@@ -1,0 +1,35 @@
+-- `read::table_in` meets its contract: field by field. Assumes nothing.
+use Rattle.board.specs.Layout.{tableIn}
+use borrow.Author.Needs.{needs}
+use Rattle.board.proofs.read.table_in.Statement.{statement}
+use Rattle.board.proofs.read.table_in.Tie as tie
+
+open-requires : tie.Need-open-requires
+open-requires c κs = search needs
+
+returns : tie.Need-returns
+returns c = λ e. absurd (c .before .before .if1 .taken e)
+
+number-at-requires : tie.Need-number-at-requires
+number-at-requires c κs = search needs
+
+number-at-requires-2 : tie.Need-number-at-requires-2
+number-at-requires-2 c κs = search needs
+
+slots-in-requires : tie.Need-slots-in-requires
+slots-in-requires c κs = search needs
+
+returns-2 : tie.Need-returns-2
+unfolding tableIn
+returns-2 c = λ e. cc
+
+pub table-in-spec : {M : Type 1} → statement M
+table-in-spec =
+    tie.close
+    (tie.spec
+    open-requires
+    returns
+    number-at-requires
+    number-at-requires-2
+    slots-in-requires
+    returns-2)

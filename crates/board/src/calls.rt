@@ -1,0 +1,187 @@
+// The six exported functions. Each reads the table from its bytes, calls the method of `cache` on
+// it and, granted, writes the next table back. Every call writes the numbers behind its pointers.
+ghost use Prim.Native.Nat.{_<_};
+ghost use mathlib.Core.Path.{_≡_};
+ghost use mathlib.Core.Option.{some};
+ghost use Rattle.board.specs.Calls.{OpenCall, CreateCall, WriteCall, CompleteCall, AskCall, CountCall, holdNumber};
+use crate::read::is_table;
+use crate::read::table_in;
+use crate::write::store;
+use cache::Table;
+use rules::Answer;
+use rules::AskAnswer;
+use rules::CountAnswer;
+use rules::CreateAnswer;
+use rules::Hold;
+use rules::WriteAnswer;
+
+#[no_mangle]
+pub extern "C" fn board_open(table: &mut [u8], first: u32) -> u32
+    ensures { λ r. ⌜ OpenCall (now (table .entry)) first r (now (table .exit)) ⌝ }
+{
+    if table.len() != 2056 {
+        return 2;
+    }
+    let o = Table::open(first);
+    let next = o.table;
+    store(table, next);
+    let answer = o.answer;
+    match answer {
+        Answer::Granted => 0,
+        Answer::Refused(k) => k,
+    }
+}
+
+fn hold_number(h: Hold) -> u32
+    requires { ⌜ holdNumber (some h) < 4294967296 ⌝ }
+    ensures { λ r. ⌜ r ≡ holdNumber (some h) ⌝ }
+{
+    match h {
+        Hold::Hard => 1,
+        Hold::Soft(r) => 2 + r,
+    }
+}
+
+#[no_mangle]
+pub extern "C" fn board_create(
+    table: &mut [u8],
+    image: &mut [u8],
+    undo: &mut [u8],
+    block: u32,
+    offset: u32,
+    bytes: &[u8],
+    named: &[u32],
+    number: &mut u32,
+    hold: &mut u32,
+) -> u32
+    ensures { λ r. ⌜ CreateCall (now (table .entry)) (now (image .entry)) (now (undo .entry)) (record { block = block; offset = offset; bytes = now (bytes .entry); named = now (named .entry) }) (record { refusal = r; number = now (number .exit); hold = now (hold .exit); table = now (table .exit); image = now (image .exit); undo = now (undo .exit) }) ⌝ }
+{
+    *number = 0;
+    *hold = 0;
+    if !is_table(table) {
+        if image.len() != 16384 {
+            return 1;
+        }
+        if undo.len() != 1024 {
+            return 1;
+        }
+        return 2;
+    }
+    let came = table_in(table);
+    let o = came.create(image, undo, block, offset, bytes, named);
+    let answer = o.answer;
+    match answer {
+        CreateAnswer::Granted(n, h) => {
+            let next = o.table;
+            store(table, next);
+            *number = n;
+            *hold = hold_number(h);
+            0
+        }
+        CreateAnswer::Refused(k) => k,
+    }
+}
+
+#[no_mangle]
+pub extern "C" fn board_write(
+    table: &mut [u8],
+    image: &[u8],
+    undo: &[u8],
+    handed: &mut [u8],
+    block: u32,
+    set: &mut u64,
+) -> u32
+    ensures { λ r. ⌜ WriteCall (now (table .entry)) (now (image .entry)) (now (undo .entry)) (now (handed .entry)) block (record { refusal = r; set = now (set .exit); table = now (table .exit); image = now (image .exit); undo = now (undo .exit); handed = now (handed .exit) }) ⌝ }
+{
+    *set = 0;
+    if !is_table(table) {
+        if image.len() != 16384 {
+            return 1;
+        }
+        if undo.len() != 1024 {
+            return 1;
+        }
+        if handed.len() != 256 {
+            return 1;
+        }
+        return 2;
+    }
+    let came = table_in(table);
+    let o = came.write(image, undo, handed, block);
+    let answer = o.answer;
+    match answer {
+        WriteAnswer::Granted(s) => {
+            let sent = o.table;
+            store(table, sent);
+            *set = s;
+            0
+        }
+        WriteAnswer::Refused(k) => k,
+    }
+}
+
+#[no_mangle]
+pub extern "C" fn board_complete(table: &mut [u8], block: u32) -> u32
+    ensures { λ r. ⌜ CompleteCall (now (table .entry)) block r (now (table .exit)) ⌝ }
+{
+    if !is_table(table) {
+        return 2;
+    }
+    let came = table_in(table);
+    let o = came.complete(block);
+    let answer = o.answer;
+    match answer {
+        Answer::Granted => {
+            let next = o.table;
+            store(table, next);
+            0
+        }
+        Answer::Refused(k) => k,
+    }
+}
+
+#[no_mangle]
+pub extern "C" fn board_ask(table: &[u8], asked: u32, state: &mut u32) -> u32
+    ensures { λ r. ⌜ AskCall (now (table .entry)) asked r (now (state .exit)) ⌝ }
+{
+    *state = 0;
+    if !is_table(table) {
+        return 2;
+    }
+    let came = table_in(table);
+    let answer = came.ask(asked);
+    match answer {
+        AskAnswer::Waiting => {
+            *state = 1;
+            0
+        }
+        AskAnswer::InFlight => {
+            *state = 2;
+            0
+        }
+        AskAnswer::Committed => {
+            *state = 3;
+            0
+        }
+        AskAnswer::Refused(k) => k,
+    }
+}
+
+#[no_mangle]
+pub extern "C" fn board_count(table: &[u8], block: u32, count: &mut u32) -> u32
+    ensures { λ r. ⌜ CountCall (now (table .entry)) block r (now (count .exit)) ⌝ }
+{
+    *count = 0;
+    if !is_table(table) {
+        return 2;
+    }
+    let came = table_in(table);
+    let answer = came.count(block);
+    match answer {
+        CountAnswer::Granted(n) => {
+            *count = n;
+            0
+        }
+        CountAnswer::Refused(k) => k,
+    }
+}
