@@ -1,4 +1,5 @@
-//! Time per call of the library and of the plain program on the same recorded orders.
+//! Time per call of the library and of the plain program on the same recorded orders; and one pass without a clock, for a
+//! tool that counts instructions.
 
 use crate::cover::Cover;
 use crate::library::Library;
@@ -15,6 +16,7 @@ use std::hint::black_box;
 use std::time::Instant;
 
 const ORDERS: u64 = 400;
+const ORDERS_COUNTED: u64 = 100;
 const CALLS: usize = 200;
 const PASSES: usize = 7;
 const KINDS: [Kind; 6] = [Kind::Open, Kind::Create, Kind::Write, Kind::Complete, Kind::Ask, Kind::Count];
@@ -126,6 +128,31 @@ fn clock() -> f64 {
     total as f64 / f64::from(many)
 }
 
+fn calls_of(orders: &[Order], kind: Kind) -> usize {
+    orders.iter().flat_map(|order| &order.steps).filter(|step| step.kind() == kind).count()
+}
+
+fn name_of(kind: Kind) -> String {
+    format!("{kind:?}").to_lowercase()
+}
+
+/// All orders once on the library and once on the plain program, and how many calls of each kind that makes a side.
+pub fn once() -> bool {
+    let (_, library) = crate::library::under_test();
+    let orders: Vec<Order> = (1..=ORDERS_COUNTED).map(recorded).collect();
+    for library in [&*library, &Plain] {
+        let mut runner = ByBytes { library, lent: Lent::filled(&[], 0) };
+        for order in &orders {
+            runner.start(order);
+            order.steps.iter().for_each(|step| runner.call(&step.call));
+        }
+    }
+    for kind in KINDS {
+        println!("{} {}", name_of(kind), calls_of(&orders, kind));
+    }
+    true
+}
+
 pub fn run() -> bool {
     let (name, library) = crate::library::under_test();
     let orders: Vec<Order> = (1..=ORDERS).map(recorded).collect();
@@ -137,14 +164,13 @@ pub fn run() -> bool {
     println!("library: {name}; {} orders of {CALLS} calls, best of {PASSES} passes", orders.len());
     println!("nanoseconds a call (the clock's own {clock:.0} taken off)");
     println!(
-        "{:10} {:>8} {:>10} {:>15} {:>15}",
-        "call", "calls", "library", "plain by bytes", "plain by value"
+        "{:10} {:>8} {:>10} {:>15} {:>15} {:>6}",
+        "call", "calls", "library", "plain by bytes", "plain by value", "ratio"
     );
     for kind in KINDS {
-        let i = kind as usize;
-        let calls = orders.iter().flat_map(|order| &order.steps).filter(|step| step.kind() == kind).count();
-        let name = format!("{kind:?}").to_lowercase();
-        println!("{name:10} {calls:>8} {:>10.0} {:>15.0} {:>15.0}", by_library[i], by_bytes[i], by_value[i]);
+        let (i, calls, name) = (kind as usize, calls_of(&orders, kind), name_of(kind));
+        let (library, plain, value) = (by_library[i], by_bytes[i], by_value[i]);
+        println!("{name:10} {calls:>8} {library:>10.0} {plain:>15.0} {value:>15.0} {:>6.2}", library / plain);
     }
     true
 }

@@ -52,10 +52,11 @@ fn main() -> ExitCode {
         (Some("pasted"), _) => pasted_orders(),
         (Some("plain"), calls) => plain_program(calls.unwrap_or(PLAIN_CALLS)),
         (Some("bench"), _) => bench::run(),
+        (Some("once"), _) => bench::once(),
         (Some("wrong"), _) => wrong::run(words.iter().any(|word| word == "show")),
         _ => {
             println!(
-                "commands: quick | long N [SEED] | one SEED | pasted | wrong [show] | plain [N] | bench"
+                "commands: quick | long N [SEED] | one SEED | pasted | wrong [show] | plain [N] | bench | once"
             );
             false
         }

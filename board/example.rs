@@ -1,0 +1,62 @@
+//! The session of example.c through the Rust wrapper. The borrow checker keeps the lent arrays apart; the program prints the
+//! same lines, and board/build holds it to that.
+
+mod board;
+
+use board::{BLOCK, Hold, IMAGE, TABLE, Table, UNDO};
+
+struct Radio {
+    table: Table, // in memory that survives sleep
+    image: [u8; IMAGE],
+    undo: [u8; UNDO],
+}
+
+impl Radio {
+    /// Makes a change and says its number, 0 where it is refused.
+    fn change(&mut self, at: u32, offset: u32, bytes: &[u8], after: &[u32]) -> u32 {
+        let answer = board::create(&mut self.table, &mut self.image, &mut self.undo, at, offset, bytes, after);
+        let (refusal, number, hold) = match answer {
+            Ok((number, Hold::Hard)) => (0, number, 1),
+            Ok((number, Hold::Soft { room })) => (0, number, 2 + room),
+            Err(refusal) => (refusal, 0, 0),
+        };
+        println!("create on block {at}: refusal {refusal}, number {number}, hold {hold}");
+        number
+    }
+
+    /// Sends what may go of a block; the line printed stands for the radio's own driver.
+    fn flush(&mut self, from: u32) {
+        let mut bytes = [0; BLOCK];
+        match board::write(&mut self.table, &self.image, &self.undo, &mut bytes, from) {
+            Ok(set) => {
+                let [a, b, c, d, ..] = bytes;
+                println!("block {from} goes, slots {set:x}: {a:02x} {b:02x} {c:02x} {d:02x} ..");
+            }
+            Err(refusal) => println!("write of block {from}: refusal {refusal}"),
+        }
+    }
+}
+
+fn session(radio: &mut Radio) -> Result<(), u32> {
+    board::open(&mut radio.table, 1)?;
+    let name = radio.change(1, 0, b"KRTL", &[]);
+    let entry = radio.change(2, 0, b"\x01", &[name]);
+    radio.flush(2); // 13: the entry follows the name, which has not landed
+    radio.flush(1);
+    radio.flush(2); // 13 still: the name is only in flight
+    board::complete(&mut radio.table, 1)?; // the driver says that block 1 has landed
+    radio.flush(2);
+    board::complete(&mut radio.table, 2)?;
+    let state = board::ask(&radio.table, entry)? as u32 + 1;
+    let waiting = board::count(&radio.table, 2)?;
+    println!("entry: state {state}, {waiting} waiting on block 2");
+    Ok(())
+}
+
+fn main() {
+    let mut radio = Radio { table: [0; TABLE], image: [0; IMAGE], undo: [0; UNDO] };
+    if let Err(refusal) = session(&mut radio) {
+        println!("refused: {refusal}");
+        std::process::exit(1);
+    }
+}

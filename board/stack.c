@@ -1,0 +1,90 @@
+/* Prints how many bytes of stack each of the six calls takes at most along an order that reaches every branch of create
+ * and write: hard and soft patches, a hard patch that turns others, patches taken back and struck. Each call runs on a
+ * stack of its own that was painted before; what is no longer painted was used. */
+#include <stdio.h>
+#include <string.h>
+#include <ucontext.h>
+
+#include "board.h"
+
+#define STACK 262144u
+#define PAINT 0xA5u
+
+static uint8_t stack[STACK];
+static uint8_t table[BOARD_TABLE], image[BOARD_IMAGE], undo[BOARD_UNDO], handed[BOARD_BLOCK];
+static ucontext_t caller, callee;
+
+enum kind { NOTHING, OPEN, CREATE, WRITE, COMPLETE, ASK, COUNT, KINDS };
+static const char *names[KINDS] = {"nothing", "open", "create", "write", "complete", "ask", "count"};
+
+struct step {
+    enum kind kind;
+    uint32_t block, offset, named, refusal;
+};
+
+static const struct step *step;
+static uint32_t refusal;
+
+static void call(void)
+{
+    uint32_t number, hold, state, count;
+    uint64_t set;
+    uint8_t bytes[64];
+    memset(bytes, 7, sizeof bytes);
+    switch (step->kind) {
+    case OPEN: refusal = board_open(table, sizeof table, 1); break;
+    case CREATE:
+        refusal = board_create(table, sizeof table, image, sizeof image, undo, sizeof undo, step->block, step->offset, bytes, 4,
+                               &step->named, step->named != 0, &number, &hold);
+        break;
+    case WRITE:
+        refusal =
+            board_write(table, sizeof table, image, sizeof image, undo, sizeof undo, handed, sizeof handed, step->block, &set);
+        break;
+    case COMPLETE: refusal = board_complete(table, sizeof table, step->block); break;
+    case ASK: refusal = board_ask(table, sizeof table, step->named, &state); break;
+    case COUNT: refusal = board_count(table, sizeof table, step->block, &count); break;
+    default: refusal = 0;
+    }
+}
+
+/* Bytes of the painted stack that one step used. */
+static size_t used(void)
+{
+    memset(stack, PAINT, STACK);
+    getcontext(&callee);
+    callee.uc_stack.ss_sp = stack;
+    callee.uc_stack.ss_size = STACK;
+    callee.uc_link = &caller;
+    makecontext(&callee, call, 0);
+    swapcontext(&caller, &callee);
+    size_t at = 0;
+    while (at < STACK && stack[at] == PAINT)
+        at++;
+    return STACK - at;
+}
+
+int main(void)
+{
+    static const struct step steps[] = {
+        {NOTHING, 0, 0, 0, 0},   {OPEN, 0, 0, 0, 0},      {CREATE, 1, 0, 0, 0},   {CREATE, 2, 0, 1, 0},   {CREATE, 1, 2, 2, 0},
+        {CREATE, 1, 40, 0, 0},   {CREATE, 3, 0, 3, 0},    {CREATE, 2, 80, 4, 0},  {WRITE, 3, 0, 0, 13},   {WRITE, 1, 0, 0, 0},
+        {WRITE, 2, 0, 0, 13},    {COMPLETE, 1, 0, 0, 0},  {WRITE, 2, 0, 0, 0},    {COUNT, 1, 0, 0, 0},    {ASK, 0, 0, 1, 0},
+        {ASK, 0, 0, 2, 0},       {ASK, 0, 0, 3, 0},       {COMPLETE, 2, 0, 0, 0}, {WRITE, 1, 0, 0, 0},    {COMPLETE, 1, 0, 0, 0},
+        {WRITE, 3, 0, 0, 0},     {COMPLETE, 3, 0, 0, 0},  {CREATE, 64, 0, 0, 3},  {WRITE, 64, 0, 0, 3},   {ASK, 0, 0, 9, 7},
+    };
+    size_t most[KINDS] = {0};
+    for (size_t i = 0; i < sizeof steps / sizeof steps[0]; i++) {
+        step = &steps[i];
+        size_t bytes = used();
+        if (bytes > most[step->kind])
+            most[step->kind] = bytes;
+        if (refusal != step->refusal) {
+            printf("step %zu: refusal %u, not %u\n", i, (unsigned)refusal, (unsigned)step->refusal);
+            return 1;
+        }
+    }
+    for (size_t kind = OPEN; kind < KINDS; kind++)
+        printf("%-10s %6zu\n", names[kind], most[kind] - most[NOTHING]);
+    return 0;
+}
