@@ -1,14 +1,10 @@
 // The lowest free slot and the lowest free room, by a walk from 0 up.
-ghost use mathlib.Core.Path.{_≡_};
-ghost use Rattle.masks.specs.Decides.{Decides};
-ghost use Rattle.rules.specs.declared.Hold.the-variants.{Soft};
-ghost use Rattle.rules.specs.declared.State.the-variants.{Waiting};
 ghost use Rattle.rules.specs.Create.{FreeSlot, FreeRoom};
+ghost use Rattle.slots.specs.Words.{RoomsBelow};
 ghost use Rattle.accept.specs.Asked.{LowestOr};
-use rules::Hold;
 use rules::Slot;
-use rules::State;
 use slots::words::is_used;
+use slots::words::room_set;
 
 // The lowest free slot; 64 where there is none.
 pub fn lowest_slot(slots: [Slot; 64]) -> usize
@@ -24,40 +20,26 @@ pub fn lowest_slot(slots: [Slot; 64]) -> usize
     64
 }
 
-// Whether a state has the room r.
-fn has_room(u: State, r: u32) -> bool
-    ensures { λ f. ⌜ Decides (u ≡ Waiting (Soft r)) f ⌝ }
+// The rooms of all patches, gathered by one walk.
+fn taken_rooms(slots: [Slot; 64]) -> u64
+    ensures { λ r. ⌜ RoomsBelow slots 64 r ⌝ }
 {
-    match u {
-        State::Free => false,
-        State::Waiting(h) => match h {
-            Hold::Hard => false,
-            Hold::Soft(q) => q == r,
-        },
-        State::InFlight(_) => false,
-    }
-}
-
-// Whether no patch has the room r.
-fn room_is_free(slots: [Slot; 64], r: u32) -> bool
-    ensures { λ f. ⌜ Decides (FreeRoom slots r) f ⌝ }
-{
+    let mut taken: u64 = 0;
     for k in 0..64 {
         let s = slots[k];
         let u = s.state;
-        if has_room(u, r) {
-            return false;
-        }
+        taken = taken | room_set(u);
     }
-    true
+    taken
 }
 
 // The lowest free room; 16 where there is none.
 pub fn lowest_room(slots: [Slot; 64]) -> u32
     ensures { λ r. ⌜ LowestOr 16 (FreeRoom slots) r ⌝ }
 {
+    let taken = taken_rooms(slots);
     for r in 0..16u32 {
-        if room_is_free(slots, r) {
+        if !masks::has(taken, r as usize) {
             return r;
         }
     }

@@ -5,7 +5,7 @@ use mathlib.Core.List.{List, [], _∷_, _++_, append-assoc, append-nil}
 use native.Mathlib.Nat.{add-zero, zero-add, suc-add}
 use native.Mathlib.Numerals.{add-one}
 use native.Mathlib.Omega.{arith}
-use lib.ListN.{length, take, length-append}
+use lib.ListN.{length, set, take, length-append}
 use lib.Seq.{take-suc}
 use Rattle.spans.specs.Spans.{splice}
 use Rattle.spans.proofs.Laws.{splice-none}
@@ -29,6 +29,25 @@ pub record Over (was : List ℕ) (at : ℕ) (ys now : List ℕ) : Type 0 where
 -- k bytes are laid, and zs right after them
 pub laid : {was then now ys : List ℕ} {at : ℕ} (k : ℕ) (zs : List ℕ) → Over was at ys then → now ≡ splice then (at + k) zs → k ≡ length ys → Over was at (ys ++ zs) now
 laid {was} {then} {now} {ys} {at} k zs o q e = record { is = q ∙ rw (o .is, e) (splice-on was at ys zs) }
+
+-- one byte stored is one byte laid
+set-one : (xs : List ℕ) (at y : ℕ) → set xs at y ≡ splice xs at (y ∷ [])
+unfolding splice
+set-one [] at y = refl
+set-one (x ∷ xs) (suc at) y = ap (λ (r : List ℕ). x ∷ r) (set-one xs at y)
+set-one (x ∷ xs) zero y = ap (λ (r : List ℕ). y ∷ r) (sym (splice-none xs zero))
+
+-- four bytes stored one after the other are the four laid as one list
+pub set-four : (xs : List ℕ) (at a b c d : ℕ) → set (set (set (set xs at a) (at + 1) b) (at + 2) c) (at + 3) d ≡ splice xs at (a ∷ b ∷ c ∷ d ∷ [])
+set-four xs at a b c d =
+    let one : Over xs at (a ∷ []) (set xs at a) = record { is = set-one xs at a } in
+    let two = laid 1 (b ∷ []) one (set-one _ (at + 1) b) refl in
+    let three = laid 2 (c ∷ []) two (set-one _ (at + 2) c) refl in
+    laid 3 (d ∷ []) three (set-one _ (at + 3) d) refl .is
+
+pub length-four : (x : ℕ) → 4 ≡ length (inBytes 4 x)
+unfolding inBytes
+length-four x = refl
 
 pub length-slot : (s : Slot) → length (slotBytes s) ≡ 32
 unfolding inBytes slotBytes

@@ -3,3 +3,5 @@ pub mod Numbers
 pub mod Laid
 pub mod Answers
 pub mod RoundTrip
+pub mod OneAnswer
+pub mod Kept

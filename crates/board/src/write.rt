@@ -1,39 +1,39 @@
-// A table into its bytes. `spans::copy` lays each number over them, so nothing here asks that it fits.
-ghost use Prim.Native.Nat.{_≤_};
+// A table into its bytes. Every number is written by plain stores of its bytes, one after the other,
+// which the compiler joins to one store: a table is written on every granted call.
+ghost use Prim.Native.Nat.{_+_, _≤_};
 ghost use lib.ListN.{length};
 ghost use mathlib.Core.Path.{_≡_};
-ghost use Rattle.spans.specs.Spans.{splice, part};
+ghost use Rattle.spans.specs.Spans.{splice};
 ghost use Rattle.rules.specs.Slots.{roomOf};
 ghost use Rattle.cache.specs.Seen.{seen};
-ghost use Rattle.board.specs.Layout.{tableBytes, inBytes, tagOf, slotBytes, slotsBytes, bytesOf};
+ghost use Rattle.board.specs.Layout.{tableBytes, inBytes, tagOf, slotBytes, bytesOf};
 use cache::Table;
 use rules::Hold;
 use rules::Kind;
 use rules::Slot;
 use rules::State;
 
-// The lowest n bytes of the number x, at most 8, from place `at` on.
-fn put(bytes: &mut [u8], at: usize, x: u64, n: usize)
-    ensures { λ _. ⌜ now (bytes .exit) ≡ splice (now (bytes .entry)) at (part (inBytes 8 x) 0 n) ⌝ }
+// The four bytes of the number x, from place `at` on.
+fn put(bytes: &mut [u8], at: usize, x: u32)
+    requires { ⌜ at + 4 ≤ length (now bytes) ⌝ }
+    ensures { λ _. ⌜ now (bytes .exit) ≡ splice (now (bytes .entry)) at (inBytes 4 x) ⌝ }
 {
     let x1 = x / 256;
     let x2 = x1 / 256;
     let x3 = x2 / 256;
-    let x4 = x3 / 256;
-    let x5 = x4 / 256;
-    let x6 = x5 / 256;
-    let x7 = x6 / 256;
-    let eight = [
-        (x % 256) as u8,
-        (x1 % 256) as u8,
-        (x2 % 256) as u8,
-        (x3 % 256) as u8,
-        (x4 % 256) as u8,
-        (x5 % 256) as u8,
-        (x6 % 256) as u8,
-        (x7 % 256) as u8,
-    ];
-    spans::copy(bytes, at, &eight, 0, n);
+    bytes[at] = (x % 256) as u8;
+    bytes[at + 1] = (x1 % 256) as u8;
+    bytes[at + 2] = (x2 % 256) as u8;
+    bytes[at + 3] = (x3 % 256) as u8;
+}
+
+// The eight bytes of the befores: the lower four, then the upper.
+fn put_befores(bytes: &mut [u8], at: usize, x: u64)
+    requires { ⌜ at + 8 ≤ length (now bytes) ⌝ }
+    ensures { λ _. ⌜ now (bytes .exit) ≡ splice (now (bytes .entry)) at (inBytes 8 x) ⌝ }
+{
+    put(bytes, at, (x % 4294967296) as u32);
+    put(bytes, at + 4, (x / 4294967296) as u32);
 }
 
 fn tag_of(u: State) -> u32
@@ -66,36 +66,30 @@ fn room_of(u: State) -> u32
 }
 
 fn put_slot(bytes: &mut [u8], at: usize, s: Slot)
-    requires { ⌜ at ≤ 2024 ⌝ }
+    requires { ⌜ at + 32 ≤ length (now bytes) ⌝ }
     ensures { λ _. ⌜ now (bytes .exit) ≡ splice (now (bytes .entry)) at (slotBytes s) ⌝ }
 {
     let u = s.state;
-    put(bytes, at, tag_of(u) as u64, 4);
-    put(bytes, at + 4, room_of(u) as u64, 4);
-    put(bytes, at + 8, s.number as u64, 4);
-    put(bytes, at + 12, s.block as u64, 4);
-    put(bytes, at + 16, s.offset as u64, 4);
-    put(bytes, at + 20, s.len as u64, 4);
-    put(bytes, at + 24, s.befores, 8);
+    put(bytes, at, tag_of(u));
+    put(bytes, at + 4, room_of(u));
+    put(bytes, at + 8, s.number);
+    put(bytes, at + 12, s.block);
+    put(bytes, at + 16, s.offset);
+    put(bytes, at + 20, s.len);
+    put_befores(bytes, at + 24, s.befores);
 }
 
-// The 64 slots, from place 8 on. How many there are is said for who goes by the bytes' number.
-fn put_slots(bytes: &mut [u8], slots: [Slot; 64])
-    ensures { λ _. ⌜ now (bytes .exit) ≡ splice (now (bytes .entry)) 8 (slotsBytes slots) ⌝ }
-    ensures { λ _. ⌜ length slots ≡ 64 ⌝ }
-{
-    for i in 0..64 {
-        put_slot(bytes, 8 + 32 * i, slots[i]);
-    }
-}
-
-// The whole table, over the bytes from their start: where they are as many as a table has, they
-// are its bytes.
+// The whole table over bytes that are as many; other bytes, of which no call asks, stay as they are.
+// The slots are read where they stand, since handing all of them on would copy them.
 pub fn store(bytes: &mut [u8], t: Table)
     ensures { λ _. ⌜ (length (now (bytes .entry)) ≡ tableBytes → now (bytes .exit) ≡ bytesOf (seen t)) ⌝ }
 {
-    put(bytes, 0, t.first as u64, 4);
-    put(bytes, 4, t.next as u64, 4);
-    let slots = t.slots;
-    put_slots(bytes, slots);
+    if bytes.len() != 2056 {
+        return;
+    }
+    put(bytes, 0, t.first);
+    put(bytes, 4, t.next);
+    for i in 0..64 {
+        put_slot(bytes, 8 + 32 * i, t.slots[i]);
+    }
 }

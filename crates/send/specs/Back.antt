@@ -3,17 +3,18 @@ use Prim.Native.Nat.{ℕ, _-_, _≤_, _<_}
 use mathlib.Core.Path.{_≡_}
 use mathlib.Core.Bool.{true}
 use mathlib.Core.List.{List}
+use lib.ListN.{getD}
 use Rattle.masks.specs.Sets.{has}
 use Rattle.rules.specs.declared.Slot.{Slot}
 use Rattle.rules.specs.Sizes.{slots}
 use Rattle.rules.specs.Table.{slotAt}
 use Rattle.rules.specs.Write.{backDown}
 
--- of the slots of `left` below n, r has the highest number below `below`; r is no slot where none has such a number
-pub record Best (ss : List Slot) (left below n r : ℕ) : Type 0 where
+-- of the slots of `left` below n, r has the highest number below `below`; r is no slot where none has such a number. ns are the slots' numbers
+pub record Best (ns : List ℕ) (left below n r : ℕ) : Type 0 where
   pub in-left : r < slots → has left r ≡ true
-  pub low : r < slots → slotAt ss r .number < below
-  pub top : (j : ℕ) → j < n → has left j ≡ true → slotAt ss j .number < below → (r < slots) × (slotAt ss j .number ≤ slotAt ss r .number)
+  pub low : r < slots → getD ns r 0 < below
+  pub top : (j : ℕ) → j < n → has left j ≡ true → getD ns j 0 < below → (r < slots) × (getD ns j 0 ≤ getD ns r 0)
 
 -- the slots of `left` have numbers from first on, all different
 pub record Numbered (ss : List Slot) (left first : ℕ) : Type 0 where

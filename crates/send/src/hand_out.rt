@@ -11,6 +11,7 @@ ghost use Rattle.send.specs.Handed.{Handed};
 use rules::Hold;
 use rules::Slot;
 use rules::State;
+use slots::walks::numbers_of;
 use slots::walks::set_of;
 use slots::words::Word;
 
@@ -29,30 +30,30 @@ fn room_of(u: State) -> u32
 }
 
 // Slot i against the best so far (64: none yet): the higher number, if it is below `below`.
-fn better(slots: [Slot; 64], left: u64, below: u32, best: usize, i: usize) -> usize
+fn better(numbers: &[u32; 64], left: u64, below: u32, best: usize, i: usize) -> usize
     requires { ⌜ i < 64 ⌝ }
-    ensures { λ r. ⌜ (Best slots left below i best → Best slots left below (i + 1) r) ⌝ }
+    ensures { λ r. ⌜ (Best (now (numbers .entry)) left below i best → Best (now (numbers .entry)) left below (i + 1) r) ⌝ }
 {
     if !masks::has(left, i) {
         return best;
     }
-    let n = slots[i].number;
+    let n = numbers[i];
     if below <= n {
         return best;
     }
     if 63 < best {
         return i;
     }
-    if slots[best].number < n { i } else { best }
+    if numbers[best] < n { i } else { best }
 }
 
 // Of the slots of `left`, that with the highest number below `below`; 64 where there is none.
-fn highest(slots: [Slot; 64], left: u64, below: u32) -> usize
-    ensures { λ r. ⌜ Best slots left below 64 r ⌝ }
+fn highest(numbers: &[u32; 64], left: u64, below: u32) -> usize
+    ensures { λ r. ⌜ Best (now (numbers .entry)) left below 64 r ⌝ }
 {
     let mut best = 64;
     for i in 0..64 {
-        best = better(slots, left, below, best, i);
+        best = better(numbers, left, below, best, i);
     }
     best
 }
@@ -66,17 +67,19 @@ fn take_back(out: &mut [u8], undo: &[u8], s: Slot)
     spans::copy(out, s.offset as usize, undo, from, s.len as usize);
 }
 
-// All patches of `left` with a number below `top` taken back.
+// All patches of `left` with a number below `top` taken back. The numbers are gathered once and
+// lent to each search.
 fn take_all_back(out: &mut [u8], undo: &[u8], slots: [Slot; 64], left: u64, top: u32)
     ensures { λ _. ⌜ AllBack slots left (now (undo .entry)) top (now (out .entry)) (now (out .exit)) ⌝ }
 {
+    let numbers = numbers_of(slots);
     let mut below = top;
-    let mut i = highest(slots, left, below);
+    let mut i = highest(&numbers, left, below);
     while i < 64 {
         let s = slots[i];
         take_back(out, undo, s);
         below = s.number;
-        i = highest(slots, left, below);
+        i = highest(&numbers, left, below);
     }
 }
 

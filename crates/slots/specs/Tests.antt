@@ -1,8 +1,9 @@
--- What the private tests of `is_sound` decide, of one slot and of two. No public promise cites this file: those cite Sound of `rules`.
+-- What the private tests of `is_sound` decide, of one slot and of its number beside others. No public promise cites this file: those cite Sound of `rules`.
 use Prim.Native.Nat.{ℕ, _+_, _≤_, _<_}
 use mathlib.Core.Path.{_≡_}
 use mathlib.Core.Bool.{true}
 use mathlib.Core.List.{List}
+use lib.ListN.{getD}
 use Rattle.masks.specs.Sets.{has}
 use Rattle.rules.specs.declared.Hold.the-variants as hold
 use Rattle.rules.specs.declared.State.{State}
@@ -10,7 +11,6 @@ use Rattle.rules.specs.declared.State.the-variants as state
 use Rattle.rules.specs.declared.Slot.{Slot}
 use Rattle.rules.specs.Sizes.{slots, blocks, blockBytes, rooms, mostBytes}
 use Rattle.rules.specs.Slots.{isUsed}
-use Rattle.rules.specs.Table.{slotAt}
 use Rattle.slots.specs.declared.sound.Room.{Room}
 use Rattle.slots.specs.declared.sound.Room.the-variants as room
 
@@ -41,11 +41,6 @@ pub record Alone (first next used i : ℕ) (s : Slot) : Type 0 where
 abbrev pub SoundAlone : ℕ → ℕ → ℕ → ℕ → Slot → Type 0
 SoundAlone first next used i s = isUsed (s .state) ≡ true → Alone first next used i s
 
--- two slots in use have neither one number nor one room
-pub record Apart (a b : Slot) : Type 0 where
-  pub numbers : isUsed (a .state) ≡ true → isUsed (b .state) ≡ true → a .number ≡ b .number → ⊥
-  pub rooms : (r : ℕ) → roomIn (a .state) ≡ room.At r → roomIn (b .state) ≡ room.At r → ⊥
-
--- slot i and each below it
-abbrev pub ApartBelow : List Slot → ℕ → Type 0
-ApartBelow ss i = (j : ℕ) → j < i → Apart (slotAt ss i) (slotAt ss j)
+-- no slot of the set m below slot i has its number, where slot i is in the set too; ns are the numbers
+abbrev pub NumberApart : List ℕ → ℕ → ℕ → Type 0
+NumberApart ns m i = has m i ≡ true → (j : ℕ) → j < i → has m j ≡ true → getD ns j 0 ≡ getD ns i 0 → ⊥

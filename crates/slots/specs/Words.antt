@@ -1,13 +1,18 @@
--- The words that a walk over the slots asks, each one of the words of `rules`.
+-- The words that a walk over the slots asks, each one of the words of `rules`, and what a walk gathers.
 use Prim.Native.Nat.{ℕ, _≤_, _<_}
 use mathlib.Core.Path.{_≡_}
-use mathlib.Core.Bool.{Bool, true, _&&_}
+use mathlib.Core.Bool.{Bool, true, false, _&&_}
 use mathlib.Core.List.{List}
 use lib.Dec.{eqb}
+use lib.ListN.{length, getD}
+use Rattle.masks.specs.Sets.{has}
+use Rattle.rules.specs.declared.Hold.the-variants as hold
+use Rattle.rules.specs.declared.State.{State}
+use Rattle.rules.specs.declared.State.the-variants as state
 use Rattle.rules.specs.declared.Slot.{Slot}
 use Rattle.rules.specs.Sizes.{slots}
 use Rattle.rules.specs.Slots.{isUsed, isWaiting, isInFlight, isHard}
-use Rattle.rules.specs.Table.{used, slotAt}
+use Rattle.rules.specs.Table.{used, slotAt, HasRoom}
 use Rattle.slots.specs.declared.words.Word.{Word}
 use Rattle.slots.specs.declared.words.Word.the-variants as word
 
@@ -30,3 +35,20 @@ pub record Found (ss : List Slot) (n r : ℕ) : Type 0 where
 -- the word holds of some slot, on the block
 abbrev pub Some : List Slot → Word → ℕ → Type 0
 Some ss w b = (i : ℕ) × (i < slots) × (says w b (slotAt ss i) ≡ true)
+
+-- ns are the numbers of the 64 slots
+pub record NumbersOf (ss : List Slot) (ns : List ℕ) : Type 0 where
+  pub count : length ns ≡ slots
+  pub same : (i : ℕ) → i < slots → getD ns i 0 ≡ slotAt ss i .number
+
+-- a patch in the state has the undo room r: at slot i of ss this is HasRoom ss i r
+abbrev pub hasRoom : State → ℕ → Bool
+hasRoom state.Free r = false
+hasRoom (state.Waiting hold.Hard) r = false
+hasRoom (state.Waiting (hold.Soft q)) r = eqb r q
+hasRoom (state.InFlight k) r = false
+
+-- of the rooms that a set can have, m has just those of the slots below n; no public promise cites this, only the walks that gather rooms
+pub record RoomsBelow (ss : List Slot) (n m : ℕ) : Type 0 where
+  pub all : (i r : ℕ) → i < n → r < 64 → HasRoom ss i r → has m r ≡ true
+  pub only : (r : ℕ) → r < 64 → has m r ≡ true → (i : ℕ) × (i < n) × HasRoom ss i r

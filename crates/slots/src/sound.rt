@@ -3,10 +3,12 @@ ghost use Prim.Native.Nat.{_<_};
 ghost use mathlib.Core.Path.{_≡_};
 ghost use Rattle.masks.specs.Decides.{Decides};
 ghost use Rattle.rules.specs.Table.{Sound, tableOf};
-ghost use Rattle.slots.specs.Tests.{roomIn, InRange, SoundAlone, Apart, ApartBelow};
+ghost use Rattle.slots.specs.Tests.{roomIn, InRange, SoundAlone, NumberApart};
+use crate::walks::numbers_of;
 use crate::walks::set_of;
 use crate::words::Word;
 use crate::words::is_used;
+use crate::words::room_set;
 use rules::Hold;
 use rules::Slot;
 use rules::State;
@@ -81,45 +83,28 @@ fn sound_alone(s: Slot, i: usize, used: u64, first: u32, next: u32) -> bool
     true
 }
 
-// Whether two slots in use have neither one number nor one room.
-fn apart(a: Slot, b: Slot) -> bool
-    ensures { λ r. ⌜ Decides (Apart a b) r ⌝ }
-{
-    let u = a.state;
-    let v = b.state;
-    if !is_used(u) {
-        return true;
-    }
-    if !is_used(v) {
-        return true;
-    }
-    if a.number == b.number {
-        return false;
-    }
-    let Room::At(r) = room_of(u) else {
-        return true;
-    };
-    let Room::At(q) = room_of(v) else {
-        return true;
-    };
-    if r == q { false } else { true }
-}
-
-// Whether slot i is apart from each below it; every two slots are so compared once.
-fn apart_below(slots: [Slot; 64], i: usize) -> bool
+// Whether slot i, if it is in use, has another number than each one in use below it; every two
+// slots are so compared once.
+fn number_apart(numbers: &[u32; 64], used: u64, i: usize) -> bool
     requires { ⌜ i < 64 ⌝ }
-    ensures { λ r. ⌜ Decides (ApartBelow slots i) r ⌝ }
+    ensures { λ r. ⌜ Decides (NumberApart (now (numbers .entry)) used i) r ⌝ }
 {
-    let s = slots[i];
+    if !masks::has(used, i) {
+        return true;
+    }
+    let n = numbers[i];
     for j in 0..i {
-        if !apart(s, slots[j]) {
-            return false;
+        if numbers[j] == n {
+            if masks::has(used, j) {
+                return false;
+            }
         }
     }
     true
 }
 
-// The first and the next number, then slot by slot.
+// The first and the next number, then slot by slot; `taken` has the rooms of the slots passed. A
+// slot's room is looked up only after the slot is sound alone, so that it is a room of the set.
 pub fn is_sound(first: u32, next: u32, slots: [Slot; 64]) -> bool
     ensures { λ r. ⌜ Decides (Sound (tableOf first next slots)) r ⌝ }
 {
@@ -136,14 +121,22 @@ pub fn is_sound(first: u32, next: u32, slots: [Slot; 64]) -> bool
         return false;
     }
     let used = set_of(slots, Word::Used, 0);
+    let numbers = numbers_of(slots);
+    let mut taken: u64 = 0;
     for i in 0..64 {
         let s = slots[i];
         if !sound_alone(s, i, used, first, next) {
             return false;
         }
-        if !apart_below(slots, i) {
+        if !number_apart(&numbers, used, i) {
             return false;
         }
+        let u = s.state;
+        let room = room_set(u);
+        if masks::meets(taken, room) {
+            return false;
+        }
+        taken = taken | room;
     }
     true
 }

@@ -1,10 +1,10 @@
 // Walks over the 64 slots: the set of those of which a word holds, how many there are, whether
-// there is one, and the slot of a number.
+// there is one, the slot of a number, and the numbers alone.
 ghost use mathlib.Core.Path.{_≡_};
 ghost use Rattle.masks.specs.Decides.{Decides};
 ghost use Rattle.masks.specs.Sets.{setOf, howMany};
 ghost use Rattle.rules.specs.Table.{slotAt};
-ghost use Rattle.slots.specs.Words.{says, Some, Found};
+ghost use Rattle.slots.specs.Words.{says, Some, Found, NumbersOf};
 use crate::words::Word;
 use crate::words::is_used;
 use crate::words::says;
@@ -55,4 +55,17 @@ pub fn find(slots: [Slot; 64], number: u32) -> usize
         }
     }
     64
+}
+
+// The numbers of the slots. They can be lent, where an array of slots is copied at each call: a
+// walk that compares numbers gathers them first.
+pub fn numbers_of(slots: [Slot; 64]) -> [u32; 64]
+    ensures { λ r. ⌜ NumbersOf slots r ⌝ }
+{
+    let mut numbers: [u32; 64] = [0; 64];
+    for i in 0..64 {
+        let s = slots[i];
+        numbers[i] = s.number;
+    }
+    numbers
 }

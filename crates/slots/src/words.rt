@@ -1,7 +1,8 @@
 // What is asked of one slot. A word is a value, so that one walk over the slots serves them all.
 ghost use mathlib.Core.Path.{_≡_};
+ghost use Rattle.masks.specs.Sets.{setOf};
 ghost use Rattle.rules.specs.Slots.{isUsed, isWaiting, isInFlight, isHard};
-ghost use Rattle.slots.specs.Words.{says};
+ghost use Rattle.slots.specs.Words.{says, hasRoom};
 use rules::Hold;
 use rules::Slot;
 use rules::State;
@@ -67,5 +68,20 @@ pub fn says(word: Word, block: u32, s: Slot) -> bool
         Word::Waiting => is_waiting(u) && s.block == block,
         Word::InFlight => is_in_flight(u) && s.block == block,
         Word::Hard => is_hard(u) && s.block == block,
+    }
+}
+
+// The undo room of a patch as a set: rooms gathered in a set are looked up without a walk. No set
+// has a room above 63, and a sound table has none above 15.
+pub fn room_set(u: State) -> u64
+    ensures { λ r. ⌜ r ≡ setOf (hasRoom u) ⌝ }
+{
+    match u {
+        State::Free => 0,
+        State::Waiting(h) => match h {
+            Hold::Hard => 0,
+            Hold::Soft(r) => masks::with(0, r as usize),
+        },
+        State::InFlight(_) => 0,
     }
 }

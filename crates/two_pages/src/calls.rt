@@ -1,5 +1,6 @@
 // A call and its line: the row, what the call takes, and its whole answer.
 use crate::say;
+use crate::say::Row;
 use cache::Table;
 use rules::Answer;
 use rules::CreateAnswer;
@@ -25,11 +26,11 @@ fn granted_or(a: Answer) {
     }
 }
 
-pub fn open(row: &[u8], first: u32) -> Table {
+pub fn open(row: Row, first: u32) -> Table {
     let o = Table::open(first);
     let answer = o.answer;
     let table = o.table;
-    say::text(row);
+    say::label(row);
     say::field(b" open first ", first);
     say::text(b": ");
     granted_or(answer);
@@ -60,7 +61,7 @@ pub fn create(
     t: Table,
     image: &mut [u8; 16384],
     undo: &mut [u8; 1024],
-    row: &[u8],
+    row: Row,
     block: u32,
     offset: u32,
     bytes: &[u8],
@@ -69,7 +70,7 @@ pub fn create(
     let o = t.create(image, undo, block, offset, bytes, named);
     let answer = o.answer;
     let table = o.table;
-    say::text(row);
+    say::label(row);
     say::field(b" create block ", block);
     say::field(b" offset ", offset);
     say::length(bytes);
@@ -91,12 +92,12 @@ fn sent(a: WriteAnswer) {
 }
 
 // The block lent holds 9s, and a refusal leaves it so.
-pub fn write(t: Table, image: &[u8; 16384], undo: &[u8; 1024], row: &[u8], block: u32) -> Table {
+pub fn write(t: Table, image: &[u8; 16384], undo: &[u8; 1024], row: Row, block: u32) -> Table {
     let mut handed = [9u8; 256];
     let o = t.write(image, undo, &mut handed, block);
     let answer = o.answer;
     let table = o.table;
-    say::text(row);
+    say::label(row);
     say::field(b" write block ", block);
     say::text(b": ");
     sent(answer);
@@ -106,11 +107,11 @@ pub fn write(t: Table, image: &[u8; 16384], undo: &[u8; 1024], row: &[u8], block
     table
 }
 
-pub fn complete(t: Table, row: &[u8], block: u32) -> Table {
+pub fn complete(t: Table, row: Row, block: u32) -> Table {
     let o = t.complete(block);
     let answer = o.answer;
     let table = o.table;
-    say::text(row);
+    say::label(row);
     say::field(b" complete block ", block);
     say::text(b": ");
     granted_or(answer);
@@ -130,10 +131,10 @@ fn state(u: State) {
 }
 
 // No call: the patch in slot 3, as the table has it.
-pub fn slot_3(t: Table, row: &[u8]) {
+pub fn slot_3(t: Table, row: Row) {
     let s = t.slots[3];
     let u = s.state;
-    say::text(row);
+    say::label(row);
     say::field(b" slot 3: number ", s.number);
     state(u);
     say::text(b"\n");

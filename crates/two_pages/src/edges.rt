@@ -1,5 +1,6 @@
 // "At the edges": each edge at its exact numbers. A row's word says which edge it is.
 use crate::calls;
+use crate::say::Row;
 use cache::Table;
 
 // A change of one byte, with no numbers.
@@ -7,7 +8,7 @@ fn one(
     t: Table,
     image: &mut [u8; 16384],
     undo: &mut [u8; 1024],
-    row: &[u8],
+    row: Row,
     block: u32,
     offset: u32,
 ) -> Table {
@@ -19,7 +20,7 @@ fn many(
     t: Table,
     image: &mut [u8; 16384],
     undo: &mut [u8; 1024],
-    row: &[u8],
+    row: Row,
     block: u32,
     times: u32,
 ) -> Table {
@@ -33,60 +34,60 @@ fn many(
 // Offset, length and the numbers named.
 pub fn ranges(image: &mut [u8; 16384], undo: &mut [u8; 1024]) {
     let bytes = [5u8; 65];
-    let t = calls::open(b"range", 1);
-    let t = calls::create(t, image, undo, b"range", 0, 192, &bytes[..64], &[]);
-    let t = calls::create(t, image, undo, b"range", 0, 193, &bytes[..64], &[]);
-    let t = calls::create(t, image, undo, b"range", 0, 256, &[5], &[]);
-    let t = calls::create(t, image, undo, b"range", 0, 4294967295, &[5], &[]);
-    let t = calls::create(t, image, undo, b"range", 0, 0, &bytes, &[]);
+    let mut t = calls::open(Row::Range, 1);
+    t = calls::create(t, image, undo, Row::Range, 0, 192, &bytes[..64], &[]);
+    t = calls::create(t, image, undo, Row::Range, 0, 193, &bytes[..64], &[]);
+    t = calls::create(t, image, undo, Row::Range, 0, 256, &[5], &[]);
+    t = calls::create(t, image, undo, Row::Range, 0, 4294967295, &[5], &[]);
+    t = calls::create(t, image, undo, Row::Range, 0, 0, &bytes, &[]);
     named(t, image, undo);
 }
 
 // 1 has been issued; 2 to 8 are issued here, so that 8 and 9 different numbers can be named.
-fn named(t: Table, image: &mut [u8; 16384], undo: &mut [u8; 1024]) {
-    let t = many(t, image, undo, b"named", 3, 7);
-    let t = calls::create(
+fn named(mut t: Table, image: &mut [u8; 16384], undo: &mut [u8; 1024]) {
+    t = many(t, image, undo, Row::Named, 3, 7);
+    t = calls::create(
         t,
         image,
         undo,
-        b"named",
+        Row::Named,
         4,
         0,
         &[5],
         &[1, 2, 3, 4, 5, 6, 7, 8],
     );
-    let t = calls::create(
+    t = calls::create(
         t,
         image,
         undo,
-        b"named",
+        Row::Named,
         4,
         1,
         &[5],
         &[1, 2, 3, 4, 5, 6, 7, 8, 9],
     );
-    calls::create(t, image, undo, b"named", 4, 1, &[5], &[10]);
+    calls::create(t, image, undo, Row::Named, 4, 1, &[5], &[10]);
 }
 
 // Opened at the last number, one create is granted. Above it nothing opens.
 pub fn last_number(image: &mut [u8; 16384], undo: &mut [u8; 1024]) {
-    let t = calls::open(b"last", 1000000000);
-    many(t, image, undo, b"last", 0, 2);
-    calls::open(b"last", 1000000001);
-    calls::open(b"last", 0);
+    let mut t = calls::open(Row::Last, 1000000000);
+    many(t, image, undo, Row::Last, 0, 2);
+    calls::open(Row::Last, 1000000001);
+    calls::open(Row::Last, 0);
 }
 
 // Sixty-four are all hard, and the sixty-fifth finds no slot.
 pub fn slots(image: &mut [u8; 16384], undo: &mut [u8; 1024]) {
-    let t = calls::open(b"slots", 1);
-    many(t, image, undo, b"slots", 0, 65);
+    let mut t = calls::open(Row::Slots, 1);
+    many(t, image, undo, Row::Slots, 0, 65);
 }
 
 // One waits on block 1 and one on block 2 names it. Sixteen more on block 1 are soft, and the
 // seventeenth finds no room.
 pub fn rooms(image: &mut [u8; 16384], undo: &mut [u8; 1024]) {
-    let t = calls::open(b"rooms", 1);
-    let t = calls::create(t, image, undo, b"rooms", 1, 0, &[5], &[]);
-    let t = calls::create(t, image, undo, b"rooms", 2, 0, &[5], &[1]);
-    many(t, image, undo, b"rooms", 1, 17);
+    let mut t = calls::open(Row::Rooms, 1);
+    t = calls::create(t, image, undo, Row::Rooms, 1, 0, &[5], &[]);
+    t = calls::create(t, image, undo, Row::Rooms, 2, 0, &[5], &[1]);
+    many(t, image, undo, Row::Rooms, 1, 17);
 }

@@ -1,48 +1,49 @@
 // "A session of two pages": rows P1 to P10, each on what the row before left, and the branch
 // directly after P6.
 use crate::calls;
+use crate::say::Row;
 use cache::Table;
 
 fn to_p4(image: &mut [u8; 16384], undo: &mut [u8; 1024]) -> Table {
-    let t = calls::open(b"P0", 1);
-    let t = calls::create(t, image, undo, b"P1", 1, 0, &[65; 8], &[]);
-    let t = calls::create(t, image, undo, b"P2", 2, 0, &[1; 2], &[1]);
-    let t = calls::create(t, image, undo, b"P3", 2, 2, &[2; 2], &[]);
-    calls::create(t, image, undo, b"P4", 1, 8, &[66; 8], &[3])
+    let mut t = calls::open(Row::P(0), 1);
+    t = calls::create(t, image, undo, Row::P(1), 1, 0, &[65; 8], &[]);
+    t = calls::create(t, image, undo, Row::P(2), 2, 0, &[1; 2], &[1]);
+    t = calls::create(t, image, undo, Row::P(3), 2, 2, &[2; 2], &[]);
+    calls::create(t, image, undo, Row::P(4), 1, 8, &[66; 8], &[3])
 }
 
-fn to_p6(t: Table, image: &[u8; 16384], undo: &[u8; 1024]) -> Table {
-    let t = calls::write(t, image, undo, b"P5", 2);
-    calls::write(t, image, undo, b"P6", 1)
+fn to_p6(mut t: Table, image: &[u8; 16384], undo: &[u8; 1024]) -> Table {
+    t = calls::write(t, image, undo, Row::P(5), 2);
+    calls::write(t, image, undo, Row::P(6), 1)
 }
 
-fn from_p7(t: Table, image: &[u8; 16384], undo: &[u8; 1024]) -> Table {
-    let t = calls::write(t, image, undo, b"P7", 1);
-    let t = calls::complete(t, b"P8", 1);
-    let t = calls::write(t, image, undo, b"P8", 2);
-    let t = calls::write(t, image, undo, b"P9", 1);
-    let t = calls::complete(t, b"P10", 2);
-    calls::write(t, image, undo, b"P10", 1)
+fn from_p7(mut t: Table, image: &[u8; 16384], undo: &[u8; 1024]) -> Table {
+    t = calls::write(t, image, undo, Row::P(7), 1);
+    t = calls::complete(t, Row::P(8), 1);
+    t = calls::write(t, image, undo, Row::P(8), 2);
+    t = calls::write(t, image, undo, Row::P(9), 1);
+    t = calls::complete(t, Row::P(10), 2);
+    calls::write(t, image, undo, Row::P(10), 1)
 }
 
 // Write block 1 answers 13 until 3 commits.
-fn from_branch(t: Table, image: &[u8; 16384], undo: &[u8; 1024]) -> Table {
-    let t = calls::complete(t, b"branch", 1);
-    let t = calls::write(t, image, undo, b"branch", 1);
-    let t = calls::write(t, image, undo, b"branch", 2);
-    let t = calls::write(t, image, undo, b"branch", 1);
-    let t = calls::complete(t, b"branch", 2);
-    calls::write(t, image, undo, b"branch", 1)
+fn from_branch(mut t: Table, image: &[u8; 16384], undo: &[u8; 1024]) -> Table {
+    t = calls::complete(t, Row::Branch, 1);
+    t = calls::write(t, image, undo, Row::Branch, 1);
+    t = calls::write(t, image, undo, Row::Branch, 2);
+    t = calls::write(t, image, undo, Row::Branch, 1);
+    t = calls::complete(t, Row::Branch, 2);
+    calls::write(t, image, undo, Row::Branch, 1)
 }
 
 // The branch goes on from the table as P6 left it. P7 to P10 make no change, so the working image
 // and the undo area are those that P6 left too.
 pub fn session(image: &mut [u8; 16384], undo: &mut [u8; 1024]) {
-    let t = to_p4(image, undo);
-    let p6 = to_p6(t, image, undo);
+    let p4 = to_p4(image, undo);
+    let p6 = to_p6(p4, image, undo);
     from_p7(p6, image, undo);
-    calls::slot_3(p6, b"P6");
-    let t = calls::create(p6, image, undo, b"branch", 1, 0, &[67], &[]);
-    calls::slot_3(t, b"branch");
-    from_branch(t, image, undo);
+    calls::slot_3(p6, Row::P(6));
+    let branch = calls::create(p6, image, undo, Row::Branch, 1, 0, &[67], &[]);
+    calls::slot_3(branch, Row::Branch);
+    from_branch(branch, image, undo);
 }

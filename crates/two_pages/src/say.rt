@@ -3,6 +3,17 @@ ghost use Prim.Native.Nat.{_+_, _≤_, _<_};
 ghost use lib.ListN.{length};
 use libc::STDOUT_FILENO;
 
+// The row of the paper's table that a line belongs to, or its branch, or which of the edges.
+pub enum Row {
+    P(u32),
+    Branch,
+    Range,
+    Named,
+    Last,
+    Slots,
+    Rooms,
+}
+
 pub fn text(words: &[u8]) {
     io::write_all(STDOUT_FILENO, words);
 }
@@ -15,6 +26,18 @@ pub fn number(n: u32) {
 pub fn field(words: &[u8], n: u32) {
     text(words);
     number(n);
+}
+
+pub fn label(of: Row) {
+    match of {
+        Row::P(n) => field(b"P", n),
+        Row::Branch => text(b"branch"),
+        Row::Range => text(b"range"),
+        Row::Named => text(b"named"),
+        Row::Last => text(b"last"),
+        Row::Slots => text(b"slots"),
+        Row::Rooms => text(b"rooms"),
+    }
 }
 
 fn place(n: usize) {

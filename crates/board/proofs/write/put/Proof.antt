@@ -1,59 +1,67 @@
--- `write::put` meets its contract: the eight bytes of the array are those of the number. Assumes nothing.
+-- `write::put` meets its contract: four bytes stored are four laid. Assumes nothing.
+use native.Mathlib.Omega.{arith}
+use denote.Ref.{now}
+use lib.ListN.{length-set}
 use Rattle.board.specs.Layout.{inBytes}
+use Rattle.board.proofs.Laid.{set-four}
 use borrow.Author.Needs.{needs}
 use Rattle.board.proofs.write.put.Statement.{statement}
 use Rattle.board.proofs.write.put.Tie as tie
 
-cast-t14 : tie.Need-cast-t14
-cast-t14 c = search needs
+cast-bytes : tie.Need-cast-bytes
+cast-bytes c = search needs
 
-cast-t16 : tie.Need-cast-t16
-cast-t16 c = search needs
+slice-write-bytes : tie.Need-slice-write-bytes
+slice-write-bytes c = search needs
 
-cast-t18 : tie.Need-cast-t18
-cast-t18 c = search needs
+cast-bytes-2 : tie.Need-cast-bytes-2
+cast-bytes-2 c = search needs
 
-cast-t20 : tie.Need-cast-t20
-cast-t20 c = search needs
+add-bytes : tie.Need-add-bytes
+add-bytes c = search needs
 
-cast-t22 : tie.Need-cast-t22
-cast-t22 c = search needs
+slice-write-bytes-2 : tie.Need-slice-write-bytes-2
+slice-write-bytes-2 c = simp length-set (omega (arith, c .pre))
 
-cast-t24 : tie.Need-cast-t24
-cast-t24 c = search needs
+cast-bytes-3 : tie.Need-cast-bytes-3
+cast-bytes-3 c = search needs
 
-cast-t26 : tie.Need-cast-t26
-cast-t26 c = search needs
+add-bytes-2 : tie.Need-add-bytes-2
+add-bytes-2 c = search needs
 
-cast-t28 : tie.Need-cast-t28
-cast-t28 c = search needs
+slice-write-bytes-3 : tie.Need-slice-write-bytes-3
+slice-write-bytes-3 c = simp length-set (omega (arith, c .pre))
 
-slice-aggregate-copy : tie.Need-slice-aggregate-copy
-slice-aggregate-copy c = search needs
+cast-bytes-4 : tie.Need-cast-bytes-4
+cast-bytes-4 c = search needs
 
-copy-requires : tie.Need-copy-requires
-copy-requires c κs = search needs
+add-bytes-3 : tie.Need-add-bytes-3
+add-bytes-3 c = search needs
+
+slice-write-bytes-4 : tie.Need-slice-write-bytes-4
+slice-write-bytes-4 c = simp length-set (omega (arith, c .pre))
 
 same-length : tie.Need-same-length
 same-length c = search needs
 
 returns : tie.Need-returns
 unfolding inBytes
-returns c = c .before .before .copy .ensures
+returns c = set-four (now (c .args .bytes)) (c .args .at) _ _ _ _
 
 pub put-spec : {M : Type 1} → statement M
 put-spec =
     tie.close
     (tie.spec
-    cast-t14
-    cast-t16
-    cast-t18
-    cast-t20
-    cast-t22
-    cast-t24
-    cast-t26
-    cast-t28
-    slice-aggregate-copy
-    copy-requires
+    cast-bytes
+    slice-write-bytes
+    cast-bytes-2
+    add-bytes
+    slice-write-bytes-2
+    cast-bytes-3
+    add-bytes-2
+    slice-write-bytes-3
+    cast-bytes-4
+    add-bytes-3
+    slice-write-bytes-4
     same-length
     returns)

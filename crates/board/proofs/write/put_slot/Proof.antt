@@ -1,23 +1,17 @@
 -- `write::put_slot` meets its contract: seven numbers, each right after the one before. Assumes nothing.
 use Prim.Native.Nat.{ℕ, _+_}
-use mathlib.Core.Path.{_≡_, refl, ap, _∙_}
-use native.Mathlib.Omega.{arith}
+use mathlib.Core.Path.{refl, ap, _∙_}
 use denote.Ref.{now}
-use lib.ListN.{length}
-use Rattle.spans.specs.Spans.{splice, part}
-use Rattle.spans.proofs.Laws.{length-splice}
+use Rattle.spans.specs.Spans.{splice}
 use Rattle.rules.specs.Slots.{roomOf}
-use Rattle.board.specs.Layout.{inBytes, tagOf, slotBytes}
-use Rattle.board.proofs.Laid.{Over, laid}
+use Rattle.board.specs.Layout.{inBytes, slotBytes}
+use Rattle.board.proofs.Laid.{laid}
 use borrow.Author.Needs.{needs}
 use Rattle.board.proofs.write.put_slot.Statement.{statement}
 use Rattle.board.proofs.write.put_slot.Tie as tie
 
 tag-of-requires : tie.Need-tag-of-requires
 tag-of-requires c κs = search needs
-
-cast-put : tie.Need-cast-put
-cast-put c = search needs
 
 put-requires : tie.Need-put-requires
 put-requires c κs = search needs
@@ -28,17 +22,11 @@ add-put c = search needs
 room-of-requires : tie.Need-room-of-requires
 room-of-requires c κs = search needs
 
-cast-put-2 : tie.Need-cast-put-2
-cast-put-2 c = search needs
-
 put-requires-2 : tie.Need-put-requires-2
 put-requires-2 c κs = search needs
 
 add-put-2 : tie.Need-add-put-2
 add-put-2 c = search needs
-
-cast-put-3 : tie.Need-cast-put-3
-cast-put-3 c = search needs
 
 put-requires-3 : tie.Need-put-requires-3
 put-requires-3 c κs = search needs
@@ -46,46 +34,39 @@ put-requires-3 c κs = search needs
 add-put-3 : tie.Need-add-put-3
 add-put-3 c = search needs
 
-cast-put-4 : tie.Need-cast-put-4
-cast-put-4 c = search needs
-
 put-requires-4 : tie.Need-put-requires-4
 put-requires-4 c κs = search needs
 
 add-put-4 : tie.Need-add-put-4
 add-put-4 c = search needs
 
-cast-put-5 : tie.Need-cast-put-5
-cast-put-5 c = search needs
-
 put-requires-5 : tie.Need-put-requires-5
 put-requires-5 c κs = search needs
 
 add-put-5 : tie.Need-add-put-5
-add-put-5 c = omega (arith, c .before .before .before .before .before .before .before .before .before .before .before .before .before .before .before .before .before .before .before .before .before .before .before .before .before .before .before .pre)
-
-cast-put-6 : tie.Need-cast-put-6
-cast-put-6 c = search needs
+add-put-5 c = search needs
 
 put-requires-6 : tie.Need-put-requires-6
 put-requires-6 c κs = search needs
 
-add-put-6 : tie.Need-add-put-6
-add-put-6 c = omega (arith, c .before .before .before .before .before .before .before .before .before .before .before .before .before .before .before .before .before .before .before .before .before .before .before .before .before .before .before .before .before .before .before .before .pre)
+add-put-befores : tie.Need-add-put-befores
+add-put-befores c = search needs
 
-put-requires-7 : tie.Need-put-requires-7
-put-requires-7 c κs = search needs
+put-befores-requires : tie.Need-put-befores-requires
+put-befores-requires c κs = search needs
 
--- the slot's bytes over what came, once all are put
-over : (c : tie.After-slice-known8) → Over (now (c .before .before .before .before .before .before .before .before .before .before .before .before .before .before .before .before .before .before .before .before .before .before .before .before .before .before .before .before .before .before .before .before .before .before .before .args .bytes)) (c .before .before .before .before .before .before .before .before .before .before .before .before .before .before .before .before .before .before .before .before .before .before .before .before .before .before .before .before .before .before .before .before .before .before .before .args .at) (slotBytes (c .before .before .before .before .before .before .before .before .before .before .before .before .before .before .before .before .before .before .before .before .before .before .before .before .before .before .before .before .before .before .before .before .before .before .before .args .s)) (c .before .before .put7 .last .0)
+same-length : tie.Need-same-length
+same-length c = search needs
+
+returns : tie.Need-returns
 unfolding inBytes slotBytes
-over c =
+returns c =
     let p7 = c .before .before in
     let p6 = p7 .before .before .before .before in
-    let p5 = p6 .before .before .before .before .before in
-    let p4 = p5 .before .before .before .before .before in
-    let p3 = p4 .before .before .before .before .before in
-    let p2 = p3 .before .before .before .before .before in
+    let p5 = p6 .before .before .before .before in
+    let p4 = p5 .before .before .before .before in
+    let p3 = p4 .before .before .before .before in
+    let p2 = p3 .before .before .before .before in
     let p1 = p2 .before .before .before .before .before in
     let a = p1 .before .before .before .before .args in
     let s = a .s in
@@ -95,44 +76,32 @@ over c =
     (laid 12 (inBytes 4 (s .block))
     (laid 8 (inBytes 4 (s .number))
     (laid 4 (inBytes 4 (roomOf (s .state)))
-    (record { is = p1 .put .ensures ∙ ap (λ (x : ℕ). splice (now (a .bytes)) (a .at) (part (inBytes 8 x) 0 4)) (p1 .before .tag-of .ensures) })
-    (p2 .put2 .ensures ∙ ap (λ (x : ℕ). splice (p1 .put .last .0) (a .at + 4) (part (inBytes 8 x) 0 4)) (p2 .before .room-of .ensures)) refl)
+    (record { is = p1 .put .ensures ∙ ap (λ (x : ℕ). splice (now (a .bytes)) (a .at) (inBytes 4 x)) (p1 .before .tag-of .ensures) })
+    (p2 .put2 .ensures ∙ ap (λ (x : ℕ). splice (p1 .put .last .0) (a .at + 4) (inBytes 4 x)) (p2 .before .room-of .ensures)) refl)
     (p3 .put3 .ensures) refl)
     (p4 .put4 .ensures) refl)
     (p5 .put5 .ensures) refl)
     (p6 .put6 .ensures) refl)
-    (p7 .put7 .ensures) refl
-
-same-length : tie.Need-same-length
-same-length c = ap length (over c .is) ∙ length-splice _ _ _
-
-returns : tie.Need-returns
-returns c = over c .is
+    (p7 .put-befores .ensures) refl .is
 
 pub put-slot-spec : {M : Type 1} → statement M
 put-slot-spec =
     tie.close
     (tie.spec
     tag-of-requires
-    cast-put
     put-requires
     add-put
     room-of-requires
-    cast-put-2
     put-requires-2
     add-put-2
-    cast-put-3
     put-requires-3
     add-put-3
-    cast-put-4
     put-requires-4
     add-put-4
-    cast-put-5
     put-requires-5
     add-put-5
-    cast-put-6
     put-requires-6
-    add-put-6
-    put-requires-7
+    add-put-befores
+    put-befores-requires
     same-length
     returns)

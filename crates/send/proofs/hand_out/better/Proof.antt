@@ -27,7 +27,7 @@ returns-2 c t = best-stays _ _ _ _ _ t (λ e h. absurd (omega arith))
 
 returns-3 : tie.Need-returns-3
 returns-3 c t =
-    let e = sym (c .before .before .before .has .ensures) ∙ not-false _ (c .before .before .if1 .left) in
+    let e = sym (c .before .before .before .before .has .ensures) ∙ not-false _ (c .before .before .before .if1 .left) in
     best-changes _ _ _ _ _ t (omega arith) e (c .before .if2 .left) (λ l. absurd (omega arith))
 
 mul-if4 : tie.Need-mul-if4
@@ -38,8 +38,9 @@ element-copy-out-if4 c = search needs
 
 returns-4 : tie.Need-returns-4
 returns-4 c t =
-    let e = sym (c .before .before .before .before .has .ensures) ∙ not-false _ (c .before .before .before .if1 .left) in
-    best-changes _ _ _ _ _ t (omega arith) e (c .before .before .if2 .left) (λ l. c .if4 .taken)
+    let at = c .before .before .before in
+    let e = sym (at .before .before .before .has .ensures) ∙ not-false _ (at .before .before .if1 .left) in
+    best-changes _ _ _ _ _ t (omega arith) e (at .if2 .left) (λ l. c .if4 .taken)
 
 returns-5 : tie.Need-returns-5
 returns-5 c t = best-stays _ _ _ _ _ t (λ e h. (omega arith, c .if4 .left))

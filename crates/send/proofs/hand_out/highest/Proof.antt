@@ -1,4 +1,5 @@
 -- `send::hand_out::highest` meets its contract. The loop's invariant: of the slots passed, `best` is the best. Assumes nothing.
+use denote.Ref.{now}
 use Prim.Native.Nat.{ℕ, _≤_, _-_}
 use mathlib.Core.Path.{_≡_, subst}
 use native.Mathlib.Omega.{arith}
@@ -9,10 +10,10 @@ use Rattle.send.proofs.hand_out.highest.Statement.{statement}
 use Rattle.send.proofs.hand_out.highest.Tie as tie
 
 abbrev Inv-loop : tie.InvT-loop
-Inv-loop slots left below best₀ i₀ best i = (i ≤ 64) × Best slots left below i best
+Inv-loop numbers left below best₀ i₀ best i = (i ≤ 64) × Best numbers left below i best
 
 abbrev μ-loop : tie.MeasureT-loop
-μ-loop slots left below best₀ i₀ best i = 64 - i
+μ-loop numbers left below best₀ i₀ best i = 64 - i
 
 loop-holds : tie.Need-loop-holds Inv-loop μ-loop
 loop-holds c = (omega arith, best-of-none _ _ _)
@@ -33,7 +34,7 @@ returns : tie.Need-returns Inv-loop μ-loop
 returns c =
     let a = c .before .before .args in
     let e : c .before .loop .i ≡ 64 = omega arith in
-    subst (λ (n : ℕ). Best (a .slots) (a .left) (a .below) n (c .before .loop .best)) e (c .before .loop .inv .1)
+    subst (λ (n : ℕ). Best (now (a .numbers)) (a .left) (a .below) n (c .before .loop .best)) e (c .before .loop .inv .1)
 
 pub highest-spec : {M : Type 1} → statement M
 highest-spec =

@@ -3,6 +3,7 @@
 use denote.Ref.{now}
 use Prim.Native.Nat.{ℕ, _-_}
 use mathlib.Core.Path.{_≡_, refl, sym, ap, _∙_}
+use native.Mathlib.Omega.{arith}
 use borrow.Author.Needs.{needs}
 use lib.ListN.{length}
 use Rattle.masks.specs.Sets.{has}
@@ -14,14 +15,17 @@ use Rattle.send.proofs.hand_out.take_all_back.Statement.{statement}
 use Rattle.send.proofs.hand_out.take_all_back.Tie as tie
 
 abbrev Inv-loop : tie.InvT-loop
-Inv-loop out₀ undo left top slots below₀ i₀ out below i =
+Inv-loop out₀ undo left top slots numbers below₀ i₀ out below i =
     (length out ≡ length out₀)
-    × Best slots left below 64 i
+    × Best numbers left below 64 i
     × ((first : ℕ) → Numbered slots left first
     → backDown slots (has left) undo first (below - first) out ≡ backDown slots (has left) undo first (top - first) out₀)
 
 abbrev μ-loop : tie.MeasureT-loop
-μ-loop out₀ undo left top slots below₀ i₀ out below i = below
+μ-loop out₀ undo left top slots numbers below₀ i₀ out below i = below
+
+numbers-of-requires : tie.Need-numbers-of-requires Inv-loop μ-loop
+numbers-of-requires c κs = search needs
 
 highest-requires : tie.Need-highest-requires Inv-loop μ-loop
 highest-requires c κs = search needs
@@ -43,20 +47,24 @@ highest-requires-2 c κs = search needs
 
 loop-less : tie.Need-loop-less Inv-loop μ-loop
 loop-less c =
-    let at = c .before .before .before .before .before .before in at .before .loop .inv .1 .low (at .loop-test .taken)
+    let at = c .before .before .before .before .before .before .before in
+    let is = at .before .before .before .before .numbers-of .ensures .same _ (at .loop-test .taken) in
+    let low = at .before .loop .inv .1 .low (at .loop-test .taken) in
+    omega arith
 
 loop-again : tie.Need-loop-again Inv-loop μ-loop
 unfolding takenBack
 loop-again c =
-    let back = c .before .before .before .take-back in
-    let at = c .before .before .before .before .before .before in
+    let back = c .before .before .before .before .take-back in
+    let at = c .before .before .before .before .before .before .before in
     let inv = at .before .loop .inv in
-    let a = at .before .before .before .before .before .args in (
+    let numbers = at .before .before .before .before in
+    let a = numbers .before .before .before .args in (
       back .kept .0 ∙ inv .0,
       c .highest2 .ensures,
       λ first d.
           ap (backDown (a .t3) (has (a .left)) (now (a .undo)) first (slotAt (a .t3) (at .before .loop .i) .number - first)) (back .ensures)
-          ∙ sym (highest-back _ _ _ _ _ _ (inv .1) d _ (at .loop-test .taken))
+          ∙ sym (highest-back (numbers .numbers-of .ensures) _ _ _ _ _ (inv .1) d _ (at .loop-test .taken))
           ∙ inv .2 first d,
     )
 
@@ -65,7 +73,9 @@ same-length c = c .before .loop .inv .0
 
 returns : tie.Need-returns Inv-loop μ-loop
 returns c first d =
-    let inv = c .before .loop .inv in sym (none-back _ _ _ _ _ _ (inv .1) d _ (c .loop-test .left)) ∙ inv .2 first d
+    let inv = c .before .loop .inv in
+    let numbers = c .before .before .before .before in
+    sym (none-back (numbers .numbers-of .ensures) _ _ _ _ _ (inv .1) d _ (c .loop-test .left)) ∙ inv .2 first d
 
 pub take-all-back-spec : {M : Type 1} → statement M
 take-all-back-spec =
@@ -73,6 +83,7 @@ take-all-back-spec =
     (tie.spec
     Inv-loop
     μ-loop
+    numbers-of-requires
     highest-requires
     loop-holds
     mul-s

@@ -1,0 +1,184 @@
+-- WHAT IS KEPT OVER SLEEP IS THE TABLE: the bytes that a granted call leaves are a table, and mean the very next table of document 01.
+-- So a radio that keeps nothing but the bytes goes through the same tables as one that keeps the table, call after call.
+use Prim.Native.Nat.{ℕ, _+_, _*_, _^_, _≤_, _<_}
+use mathlib.Core.Path.{_≡_, sym, subst}
+use mathlib.Core.Bool.{Bool, true, false, cond}
+use mathlib.Core.List.{List}
+use mathlib.Core.Logic.{inr}
+use native.Mathlib.Decide.{ℕ-discrete}
+use native.Mathlib.Omega.{arith}
+use lib.Dec.{eqb}
+use lib.ListN.{getD}
+use Rattle.masks.specs.Sets.{has}
+use Rattle.masks.proofs.Laws.{set-lt}
+use Rattle.rules.specs.declared.Hold.{Hold}
+use Rattle.rules.specs.declared.Hold.the-variants as hold
+use Rattle.rules.specs.declared.Kind.the-variants as kind
+use Rattle.rules.specs.declared.State.{State}
+use Rattle.rules.specs.declared.State.the-variants as state
+use Rattle.rules.specs.declared.Slot.{Slot}
+use Rattle.rules.specs.Sizes.{slots, lastNumber}
+use Rattle.rules.specs.Slots.{roomOf, freeSlot, withState, withBefores}
+use Rattle.rules.specs.Table.{Table, Sound, slotAt, slotsBy, used, fliesOn}
+use Rattle.rules.specs.Open.{opened}
+use Rattle.rules.specs.Create.{Change, befores, HoldOf, turnedState, turned, patch, acceptedSlots, accepted}
+use Rattle.rules.specs.Write.{sentState, sentSlots, sent}
+use Rattle.rules.specs.Complete.{remaining, completedSlots, completed}
+use Rattle.rules.specs.Refusals.{First, openCases, createCases}
+use Rattle.rules.specs.Calls.{plainNumber, createNumber, writeNumber, Opening, Opens, Creation, Creates, Writing, Writes, Completion, Completes}
+use Rattle.rules.proofs.Cases.{passed}
+use Rattle.rules.proofs.SlotsBy.{slot-by, length-by}
+use Rattle.rules.proofs.StaysSound.{Valid}
+use Rattle.rules.proofs.SoundCalls.{granted-valid}
+use Rattle.board.specs.Layout.{numberAt, stateOf, slotIn, slotStart, tableIn, IsTable, bytesOf, SlotFits, TableFits}
+use Rattle.board.proofs.Numbers.{number-4, number-8}
+use Rattle.board.proofs.RoundTrip.{read-back}
+
+-- ---- what is read from bytes fits
+
+-- each is below 256, as in memory
+abbrev pub Bytes : List ℕ → Type 0
+Bytes xs = (i : ℕ) → getD xs i 0 < 256
+
+state-fits : (tag room : ℕ) → room < 2 ^ 32 → roomOf (stateOf tag room) < 2 ^ 32
+state-fits tag room l = by (eqb tag 0) (eqb tag 1) (eqb tag 2) (eqb tag 3)
+  where
+    by : (p q r s : Bool) → roomOf (cond p state.Free (cond q (state.Waiting hold.Hard) (cond r (state.Waiting (hold.Soft room)) (cond s (state.InFlight kind.Hard) (state.InFlight kind.Soft))))) < 2 ^ 32
+    by true q r s = omega arith
+    by false true r s = omega arith
+    by false false true s = l
+    by false false false true = omega arith
+    by false false false false = omega arith
+
+module _ (xs : List ℕ) (b : Bytes xs) where
+  four-fits : (at : ℕ) → numberAt xs at 4 < 2 ^ 32
+  four-fits at = omega (arith, number-4 xs at, b at, b (at + 1), b (at + 2), b (at + 3))
+
+  eight-fits : (at : ℕ) → numberAt xs at 8 < 2 ^ 64
+  eight-fits at = omega (arith, number-8 xs at, four-fits at, four-fits (at + 4))
+
+  slot-fits : (at : ℕ) → SlotFits (slotIn xs at)
+  unfolding slotIn
+  slot-fits at = record {
+    room = state-fits (numberAt xs at 4) (numberAt xs (at + 4) 4) (four-fits (at + 4));
+    number = four-fits (at + 8);
+    block = four-fits (at + 12);
+    offset = four-fits (at + 16);
+    len = four-fits (at + 20);
+    befores = eight-fits (at + 24);
+  }
+
+-- slots that fit, one by one, make a table that fits
+by-fits : (first next : ℕ) (f : ℕ → Slot) → first < 2 ^ 32 → next < 2 ^ 32 → ((i : ℕ) → i < slots → SlotFits (f i)) → TableFits (record { first = first; next = next; slots = slotsBy f })
+by-fits first next f a b each = record { first = a; next = b; size = length-by f; each = λ i l. subst SlotFits (sym (slot-by f i l)) (each i l) }
+
+table-fits : (xs : List ℕ) → Bytes xs → TableFits (tableIn xs)
+unfolding tableIn
+table-fits xs b = by-fits (numberAt xs 0 4) (numberAt xs 4 4) (λ i. slotIn xs (slotStart i)) (four-fits xs b 0) (four-fits xs b 4) (λ i l. slot-fits xs b (slotStart i))
+
+-- ---- what a call makes of slots that fit, fits
+
+free-fits : SlotFits freeSlot
+free-fits = record { room = omega arith; number = omega arith; block = omega arith; offset = omega arith; len = omega arith; befores = omega arith }
+
+with-state-fits : (u : State) (s : Slot) → roomOf u < 2 ^ 32 → SlotFits s → SlotFits (withState u s)
+with-state-fits u s l f = record { room = l; number = f .number; block = f .block; offset = f .offset; len = f .len; befores = f .befores }
+
+either-fits : (b : Bool) (s r : Slot) → SlotFits s → SlotFits r → SlotFits (cond b s r)
+either-fits true s r f g = f
+either-fits false s r f g = g
+
+turned-room : (u : State) → roomOf (turnedState u) < 2 ^ 32
+turned-room state.Free = omega arith
+turned-room (state.Waiting h) = omega arith
+turned-room (state.InFlight k) = omega arith
+
+turned-fits : (h : Hold) (b : ℕ) (s : Slot) → SlotFits s → SlotFits (turned h b s)
+turned-fits hold.Hard b s f = either-fits (eqb (s .block) b) (withState (turnedState (s .state)) s) s (with-state-fits (turnedState (s .state)) s (turned-room (s .state)) f) f
+turned-fits (hold.Soft r) b s f = f
+
+sent-room : (u : State) → roomOf (sentState u) < 2 ^ 32
+sent-room state.Free = omega arith
+sent-room (state.Waiting h) = omega arith
+sent-room (state.InFlight k) = omega arith
+
+hold-room : {ss : List Slot} {b : ℕ} {h : Hold} → HoldOf ss b h → roomOf (state.Waiting h) < 2 ^ 32
+hold-room (HoldOf.hard w) = omega arith
+hold-room (HoldOf.soft n r) = omega (arith, r .within)
+
+module _ (t : Table) (f : TableFits t) where
+  patch-fits : (c : Change) (h : Hold) → Valid t c → HoldOf (t .slots) (c .block) h → SlotFits (patch t c h)
+  unfolding patch befores
+  patch-fits c h v o = record {
+    room = hold-room o;
+    number = f .next;
+    block = omega (arith, v .block);
+    offset = omega (arith, v .ends);
+    len = omega (arith, v .len-most);
+    befores = set-lt _;
+  }
+
+  accepted-fits : (c : Change) (j : ℕ) (h : Hold) → Valid t c → HoldOf (t .slots) (c .block) h → TableFits (accepted t c j h)
+  unfolding accepted acceptedSlots
+  accepted-fits c j h v o =
+      let p = patch t c h in
+      by-fits (t .first) (t .next + 1) (λ i. cond (eqb i j) p (turned h (p .block) (slotAt (t .slots) i))) (f .first) (omega (arith, v .last))
+      (λ i l. either-fits (eqb i j) p (turned h (p .block) (slotAt (t .slots) i)) (patch-fits c h v o) (turned-fits h (p .block) (slotAt (t .slots) i) (f .each i l)))
+
+  sent-fits : (s : ℕ) → TableFits (sent t s)
+  unfolding sent sentSlots
+  sent-fits s =
+      by-fits (t .first) (t .next) (λ i. cond (has s i) (withState (sentState (slotAt (t .slots) i .state)) (slotAt (t .slots) i)) (slotAt (t .slots) i)) (f .first) (f .next)
+      (λ i l. either-fits (has s i) (withState (sentState (slotAt (t .slots) i .state)) (slotAt (t .slots) i)) (slotAt (t .slots) i) (with-state-fits (sentState (slotAt (t .slots) i .state)) (slotAt (t .slots) i) (sent-room (slotAt (t .slots) i .state)) (f .each i l)) (f .each i l))
+
+  left-fits : (b i : ℕ) → i < slots → SlotFits (withBefores (remaining (t .slots) b i) (slotAt (t .slots) i))
+  left-fits b i l = record {
+    room = f .each i l .room;
+    number = f .each i l .number;
+    block = f .each i l .block;
+    offset = f .each i l .offset;
+    len = f .each i l .len;
+    befores = set-lt _;
+  }
+
+  completed-fits : (b : ℕ) → TableFits (completed t b)
+  unfolding completed completedSlots
+  completed-fits b =
+      by-fits (t .first) (t .next) (λ i. cond (fliesOn (t .slots) b i) freeSlot (cond (used (t .slots) i) (withBefores (remaining (t .slots) b i) (slotAt (t .slots) i)) (slotAt (t .slots) i))) (f .first) (f .next)
+      (λ i l. either-fits (fliesOn (t .slots) b i) freeSlot (cond (used (t .slots) i) (withBefores (remaining (t .slots) b i) (slotAt (t .slots) i)) (slotAt (t .slots) i)) free-fits
+      (either-fits (used (t .slots) i) (withBefores (remaining (t .slots) b i) (slotAt (t .slots) i)) (slotAt (t .slots) i) (left-fits b i l) (f .each i l)))
+
+-- ---- the theorems
+
+-- a table whose bytes mean it
+abbrev pub ReadsBack : Table → Type 0
+ReadsBack t = (tableIn (bytesOf t) ≡ t) × IsTable (bytesOf t)
+
+opened-fits : (m : ℕ) → m < 2 ^ 32 → TableFits (opened m)
+opened-fits m l = by-fits m m (λ i. freeSlot) l l (λ i b. free-fits)
+
+pub open-kept : (n : ℕ) (o : Opening) → Opens n o → ReadsBack (o .table)
+open-kept n o p = go (ℕ-discrete (plainNumber (o .answer)) 0)
+  where
+    go : Dec (plainNumber (o .answer) ≡ 0) → ReadsBack (o .table)
+    go (no d) = subst (λ (x : Opening). ReadsBack (x .table)) (sym (p .refusal d)) (read-back (opened 1) (opened-fits 1 (omega arith)))
+    go (yes z) =
+        let f = passed (λ e. omega arith) (subst (First (openCases n)) z (p .first)) in
+        let b : (lastNumber < n → ⊥) = λ l. f .0 (inr l) in
+        subst (λ (x : Opening). ReadsBack (x .table)) (sym (p .grant z)) (read-back (opened n) (opened-fits n (omega (arith, b))))
+
+module _ (xs : List ℕ) (bytes : Bytes xs) where
+  pub create-kept : (image undo : List ℕ) (c : Change) (o : Creation) → Sound (tableIn xs) → Creates (tableIn xs) image undo c o → createNumber (o .answer) ≡ 0 → ReadsBack (o .table)
+  create-kept image undo c o s p z =
+      let g = p .grant z in
+      let v = granted-valid (tableIn xs) image undo c s (subst (First (createCases (tableIn xs) image undo c)) z (p .first)) in
+      subst (λ (x : Creation). ReadsBack (x .table)) (sym (g .whole)) (read-back (accepted (tableIn xs) c (g .slot) (g .hold)) (accepted-fits (tableIn xs) (table-fits xs bytes) c (g .slot) (g .hold) v (g .hard-or-soft)))
+
+  pub write-kept : (image undo handed : List ℕ) (b : ℕ) (o : Writing) → Writes (tableIn xs) image undo handed b o → writeNumber (o .answer) ≡ 0 → ReadsBack (o .table)
+  write-kept image undo handed b o p z =
+      let g = p .grant z in
+      subst (λ (x : Writing). ReadsBack (x .table)) (sym (g .whole)) (read-back (sent (tableIn xs) (g .set)) (sent-fits (tableIn xs) (table-fits xs bytes) (g .set)))
+
+  pub complete-kept : (b : ℕ) (o : Completion) → Completes (tableIn xs) b o → plainNumber (o .answer) ≡ 0 → ReadsBack (o .table)
+  complete-kept b o p z =
+      subst (λ (x : Completion). ReadsBack (x .table)) (sym (p .grant z)) (read-back (completed (tableIn xs) b) (completed-fits (tableIn xs) (table-fits xs bytes) b))

@@ -1,0 +1,42 @@
+-- `write::put_befores` meets its contract: the lower four bytes, and the upper right after them. Assumes nothing.
+use Prim.Native.Nat.{ℕ, _/_, _%_}
+use mathlib.Core.Path.{ap, _∙_}
+use mathlib.Core.List.{List}
+use denote.Ref.{now}
+use Rattle.spans.specs.Spans.{splice}
+use Rattle.board.specs.Layout.{inBytes}
+use Rattle.board.proofs.Numbers.{bytes-8}
+use Rattle.board.proofs.Laid.{laid, length-four}
+use borrow.Author.Needs.{needs}
+use Rattle.board.proofs.write.put_befores.Statement.{statement}
+use Rattle.board.proofs.write.put_befores.Tie as tie
+
+cast-put : tie.Need-cast-put
+cast-put c = search needs
+
+put-requires : tie.Need-put-requires
+put-requires c κs = search needs
+
+add-put : tie.Need-add-put
+add-put c = search needs
+
+cast-put-2 : tie.Need-cast-put-2
+cast-put-2 c = search needs
+
+put-requires-2 : tie.Need-put-requires-2
+put-requires-2 c κs = search needs
+
+same-length : tie.Need-same-length
+same-length c = search needs
+
+returns : tie.Need-returns
+returns c =
+    let p2 = c .before .before in
+    let p1 = p2 .before .before .before .before in
+    let a = p1 .before .before .before .args in
+    laid 4 (inBytes 4 (a .x / 4294967296)) (record { is = p1 .put .ensures }) (p2 .put2 .ensures) (length-four (a .x % 4294967296)) .is ∙ ap (λ (ys : List ℕ). splice (now (a .bytes)) (a .at) ys) (bytes-8 (a .x))
+
+pub put-befores-spec : {M : Type 1} → statement M
+put-befores-spec =
+    tie.close
+    (tie.spec cast-put put-requires add-put cast-put-2 put-requires-2 same-length returns)
