@@ -4,7 +4,6 @@ ghost use Prim.Native.Nat.{_+_, _≤_};
 ghost use lib.ListN.{length};
 ghost use mathlib.Core.Path.{_≡_};
 ghost use Rattle.spans.specs.Spans.{splice};
-ghost use Rattle.rules.specs.Slots.{roomOf};
 ghost use Rattle.cache.specs.Seen.{seen};
 ghost use Rattle.board.specs.Layout.{tableBytes, inBytes, tagOf, slotBytes, bytesOf};
 use cache::Table;
@@ -12,6 +11,7 @@ use rules::Hold;
 use rules::Kind;
 use rules::Slot;
 use rules::State;
+use slots::words::room_of;
 
 // The four bytes of the number x, from place `at` on.
 fn put(bytes: &mut [u8], at: usize, x: u32)
@@ -49,19 +49,6 @@ fn tag_of(u: State) -> u32
             Kind::Hard => 3,
             Kind::Soft => 4,
         },
-    }
-}
-
-fn room_of(u: State) -> u32
-    ensures { λ r. ⌜ r ≡ roomOf u ⌝ }
-{
-    match u {
-        State::Free => 0,
-        State::Waiting(h) => match h {
-            Hold::Hard => 0,
-            Hold::Soft(r) => r,
-        },
-        State::InFlight(_) => 0,
     }
 }
 

@@ -8,26 +8,11 @@ ghost use Rattle.rules.specs.Slots.{roomOf};
 ghost use Rattle.rules.specs.Table.{tableOf};
 ghost use Rattle.send.specs.Back.{Best, AllBack};
 ghost use Rattle.send.specs.Handed.{Handed};
-use rules::Hold;
 use rules::Slot;
-use rules::State;
 use slots::walks::numbers_of;
 use slots::walks::set_of;
 use slots::words::Word;
-
-// The room of a soft waiting patch; 0 for any other, which is never taken back.
-fn room_of(u: State) -> u32
-    ensures { λ r. ⌜ r ≡ roomOf u ⌝ }
-{
-    match u {
-        State::Free => 0,
-        State::Waiting(h) => match h {
-            Hold::Hard => 0,
-            Hold::Soft(r) => r,
-        },
-        State::InFlight(_) => 0,
-    }
-}
+use slots::words::room_of;
 
 // Slot i against the best so far (64: none yet): the higher number, if it is below `below`.
 fn better(numbers: &[u32; 64], left: u64, below: u32, best: usize, i: usize) -> usize

@@ -1,7 +1,7 @@
 // What is asked of one slot. A word is a value, so that one walk over the slots serves them all.
 ghost use mathlib.Core.Path.{_≡_};
 ghost use Rattle.masks.specs.Sets.{setOf};
-ghost use Rattle.rules.specs.Slots.{isUsed, isWaiting, isInFlight, isHard};
+ghost use Rattle.rules.specs.Slots.{isUsed, isWaiting, isInFlight, isHard, roomOf};
 ghost use Rattle.slots.specs.Words.{says, hasRoom};
 use rules::Hold;
 use rules::Slot;
@@ -68,6 +68,20 @@ pub fn says(word: Word, block: u32, s: Slot) -> bool
         Word::Waiting => is_waiting(u) && s.block == block,
         Word::InFlight => is_in_flight(u) && s.block == block,
         Word::Hard => is_hard(u) && s.block == block,
+    }
+}
+
+// The room of a soft waiting patch; 0 for any other, which has none.
+pub fn room_of(u: State) -> u32
+    ensures { λ r. ⌜ r ≡ roomOf u ⌝ }
+{
+    match u {
+        State::Free => 0,
+        State::Waiting(h) => match h {
+            Hold::Hard => 0,
+            Hold::Soft(r) => r,
+        },
+        State::InFlight(_) => 0,
     }
 }
 
