@@ -1,6 +1,7 @@
-/* Prints how many bytes of stack each of the six calls takes at most along an order that reaches every branch of create
- * and write: hard and soft patches, a hard patch that turns others, patches taken back and struck. Each call runs on a
- * stack of its own that was painted before; what is no longer painted was used. */
+/* Prints the most bytes of stack that each of the six calls was seen to take along one order: hard and soft patches, a hard
+ * patch that turns a soft one, patches taken back and struck. It is what was seen, not a bound. Each step's answer is held to
+ * what is expected, so that the order goes where it is said to go. Each call runs on a stack of its own that was painted
+ * before; what is no longer painted was used. */
 #include <stdio.h>
 #include <string.h>
 #include <ucontext.h>
@@ -20,10 +21,12 @@ static const char *names[KINDS] = {"nothing", "open", "create", "write", "comple
 struct step {
     enum kind kind;
     uint32_t block, offset, named, refusal;
+    uint64_t answer; /* create: hold; write: the set sent */
 };
 
 static const struct step *step;
 static uint32_t refusal;
+static uint64_t answer;
 
 static void call(void)
 {
@@ -31,15 +34,18 @@ static void call(void)
     uint64_t set;
     uint8_t bytes[64];
     memset(bytes, 7, sizeof bytes);
+    answer = 0;
     switch (step->kind) {
     case OPEN: refusal = board_open(table, sizeof table, 1); break;
     case CREATE:
         refusal = board_create(table, sizeof table, image, sizeof image, undo, sizeof undo, step->block, step->offset, bytes, 4,
                                &step->named, step->named != 0, &number, &hold);
+        answer = hold;
         break;
     case WRITE:
         refusal =
             board_write(table, sizeof table, image, sizeof image, undo, sizeof undo, handed, sizeof handed, step->block, &set);
+        answer = set;
         break;
     case COMPLETE: refusal = board_complete(table, sizeof table, step->block); break;
     case ASK: refusal = board_ask(table, sizeof table, step->named, &state); break;
@@ -67,11 +73,38 @@ static size_t used(void)
 int main(void)
 {
     static const struct step steps[] = {
-        {NOTHING, 0, 0, 0, 0},   {OPEN, 0, 0, 0, 0},      {CREATE, 1, 0, 0, 0},   {CREATE, 2, 0, 1, 0},   {CREATE, 1, 2, 2, 0},
-        {CREATE, 1, 40, 0, 0},   {CREATE, 3, 0, 3, 0},    {CREATE, 2, 80, 4, 0},  {WRITE, 3, 0, 0, 13},   {WRITE, 1, 0, 0, 0},
-        {WRITE, 2, 0, 0, 13},    {COMPLETE, 1, 0, 0, 0},  {WRITE, 2, 0, 0, 0},    {COUNT, 1, 0, 0, 0},    {ASK, 0, 0, 1, 0},
-        {ASK, 0, 0, 2, 0},       {ASK, 0, 0, 3, 0},       {COMPLETE, 2, 0, 0, 0}, {WRITE, 1, 0, 0, 0},    {COMPLETE, 1, 0, 0, 0},
-        {WRITE, 3, 0, 0, 0},     {COMPLETE, 3, 0, 0, 0},  {CREATE, 64, 0, 0, 3},  {WRITE, 64, 0, 0, 3},   {ASK, 0, 0, 9, 7},
+        {NOTHING, 0, 0, 0, 0, 0},
+        {OPEN, 0, 0, 0, 0, 0},
+        {CREATE, 1, 0, 0, 0, 1},  /* 1, hard */
+        {CREATE, 2, 0, 1, 0, 1},  /* 2, hard */
+        {CREATE, 1, 2, 2, 0, 2},  /* 3, soft in room 0: 2 follows 1 */
+        {CREATE, 1, 40, 0, 0, 3}, /* 4, soft in room 1 */
+        {CREATE, 3, 0, 3, 0, 1},
+        {CREATE, 2, 80, 4, 0, 4},
+        {WRITE, 3, 0, 0, 13, 0},
+        {WRITE, 1, 0, 0, 0, 0x9}, /* 3 is struck and taken back */
+        {WRITE, 2, 0, 0, 13, 0},
+        {COMPLETE, 1, 0, 0, 0, 0},
+        {WRITE, 2, 0, 0, 0, 0x22},
+        {COUNT, 1, 0, 0, 0, 0},
+        {ASK, 0, 0, 1, 0, 0},
+        {ASK, 0, 0, 2, 0, 0},
+        {ASK, 0, 0, 3, 0, 0},
+        {COMPLETE, 2, 0, 0, 0, 0},
+        {WRITE, 1, 0, 0, 0, 0x4},
+        {COMPLETE, 1, 0, 0, 0, 0},
+        {WRITE, 3, 0, 0, 0, 0x10},
+        {COMPLETE, 3, 0, 0, 0, 0},
+        {CREATE, 5, 0, 0, 0, 1}, /* 7 */
+        {CREATE, 6, 0, 7, 0, 1}, /* 8 follows 7 */
+        {CREATE, 5, 8, 8, 0, 2}, /* 9, soft, follows 8 */
+        {WRITE, 5, 0, 0, 0, 0x1},
+        {COMPLETE, 5, 0, 0, 0, 0},
+        {CREATE, 5, 16, 0, 0, 1}, /* 10, hard: 9 turns hard */
+        {WRITE, 5, 0, 0, 13, 0},  /* so nothing goes while 9 waits for 8; a soft 9 would stay behind */
+        {CREATE, 64, 0, 0, 3, 0},
+        {WRITE, 64, 0, 0, 3, 0},
+        {ASK, 0, 0, 99, 7, 0},
     };
     size_t most[KINDS] = {0};
     for (size_t i = 0; i < sizeof steps / sizeof steps[0]; i++) {
@@ -79,8 +112,8 @@ int main(void)
         size_t bytes = used();
         if (bytes > most[step->kind])
             most[step->kind] = bytes;
-        if (refusal != step->refusal) {
-            printf("step %zu: refusal %u, not %u\n", i, (unsigned)refusal, (unsigned)step->refusal);
+        if (refusal != step->refusal || answer != step->answer) {
+            printf("step %zu: refusal %u, answer %llx\n", i, (unsigned)refusal, (unsigned long long)answer);
             return 1;
         }
     }

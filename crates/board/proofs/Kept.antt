@@ -1,5 +1,5 @@
 -- WHAT IS KEPT OVER SLEEP IS THE TABLE: the bytes that a granted call leaves are a table, and mean the very next table of document 01.
--- So a radio that keeps nothing but the bytes goes through the same tables as one that keeps the table, call after call.
+-- Assumed: what was read are bytes, as memory has them, and for create that the table read was sound, as every table is that these calls leave.
 use Prim.Native.Nat.{ℕ, _+_, _*_, _^_, _≤_, _<_}
 use mathlib.Core.Path.{_≡_, sym, subst}
 use mathlib.Core.Bool.{Bool, true, false, cond}
