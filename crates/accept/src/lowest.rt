@@ -28,7 +28,7 @@ fn taken_rooms(slots: [Slot; 64]) -> u64
     for k in 0..64 {
         let s = slots[k];
         let u = s.state;
-        taken = taken | room_set(u);
+        taken = masks::joined(taken, room_set(u));
     }
     taken
 }

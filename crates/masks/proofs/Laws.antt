@@ -178,6 +178,10 @@ below-with p i l e =
     by k (yes h) (no n) = rw (has-below p (i + 1) k (omega arith), has-below p i k h, ne-eqb k i n) (sym (or-false (p k)))
     by k (no g) (no n) = rw (has-above p (i + 1) k (omega arith), has-above p i k (omega arith), ne-eqb k i n)
 
+-- the same of a set that is known to be that of the slots below i
+pub with-below : (p : ℕ → Bool) (i m : ℕ) → m ≡ setBelow p i → i < 64 → p i ≡ true → setOf (λ k. has m k || eqb k i) ≡ setBelow p (i + 1)
+with-below p i m e l h = ap (λ (x : ℕ). setOf (λ k. has x k || eqb k i)) e ∙ below-with p i l h
+
 -- ---- how many pass
 
 pub many-none : (p : ℕ → Bool) → howMany p 0 ≡ 0

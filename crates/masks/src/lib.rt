@@ -27,6 +27,13 @@ pub fn with(set: u64, i: usize) -> u64
     set | 1u64 << i
 }
 
+// The set of the slots that are in a or in b.
+pub fn joined(a: u64, b: u64) -> u64
+    ensures { λ r. ⌜ r ≡ setOf (λ k. has a k || has b k) ⌝ }
+{
+    a | b
+}
+
 // The set without the slots of another.
 pub fn without(set: u64, gone: u64) -> u64
     ensures { λ r. ⌜ r ≡ setOf (λ k. has set k && not (has gone k)) ⌝ }

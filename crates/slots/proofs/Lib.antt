@@ -1,4 +1,5 @@
 -- What the proofs of the functions share.
+pub mod Gathered
 pub mod Rooms
 pub mod SetSize
 pub mod Tested

@@ -1,17 +1,14 @@
 -- Laws of the undo room of a state: only a soft waiting patch has one, and it has one only. And of the set of the rooms of the slots
 -- passed, one slot more at a time. Assumes nothing.
 use Prim.Native.Nat.{ℕ, _+_, _<_}
-use mathlib.Core.Path.{_≡_, refl, sym, ap, _∙_, subst}
+use mathlib.Core.Path.{_≡_, refl, sym, ap, _∙_}
 use mathlib.Core.Bool.{true, _||_}
 use mathlib.Core.List.{List}
-use mathlib.Core.Logic.{⊎-elim}
-use native.Mathlib.Decide.{ℕ-discrete}
 use native.Mathlib.Omega.{arith}
 use borrow.Author.Tests.{eq-eqb, eqb-true}
-use lib.Bits.{bitOr}
 use Rattle.masks.specs.Sets.{has, Meet, setOf}
-use Rattle.masks.proofs.Decided.{clash, or-true, true-or-l, true-or-r}
-use Rattle.masks.proofs.Laws.{has-none, has-or, has-set, has-slot, set-lt}
+use Rattle.masks.proofs.Decided.{clash}
+use Rattle.masks.proofs.Laws.{has-set, has-slot, set-lt}
 use Rattle.rules.specs.declared.Hold.the-variants as hold
 use Rattle.rules.specs.declared.State.{State}
 use Rattle.rules.specs.declared.State.the-variants as state
@@ -20,6 +17,7 @@ use Rattle.rules.specs.Table.{slotAt, HasRoom}
 use Rattle.slots.specs.declared.sound.Room.the-variants as room
 use Rattle.slots.specs.Tests.{roomIn}
 use Rattle.slots.specs.Words.{hasRoom, RoomsBelow}
+use Rattle.slots.proofs.Gathered.{gathered-none, gathered-more}
 
 pub room-soft : (u : State) (r : ℕ) → roomIn u ≡ room.At r → u ≡ state.Waiting (hold.Soft r)
 room-soft state.Free r e = absurd (let z : _≡_ {A = ℕ} 0 1 = cc in omega arith)
@@ -47,9 +45,9 @@ soft-test u r e = ap (λ (x : State). hasRoom x r) e ∙ eq-eqb r r refl
 -- ---- the rooms of the slots below n
 
 pub rooms-none : (ss : List Slot) → RoomsBelow ss 0 0
-rooms-none ss = record { all = λ i r l. absurd (omega arith); only = λ r l h. absurd (clash h (has-none r)) }
+rooms-none ss = gathered-none
 
-module _ {ss : List Slot} {n m q : ℕ} (below : RoomsBelow ss n m) (room : q ≡ setOf (hasRoom (slotAt ss n .state))) where
+module _ (ss : List Slot) {n m q : ℕ} (below : RoomsBelow ss n m) (room : q ≡ setOf (hasRoom (slotAt ss n .state))) where
   -- the set q has just the room of slot n
   room-in : (r : ℕ) → r < 64 → HasRoom ss n r → has q r ≡ true
   room-in r l e = ap (λ (x : ℕ). has x r) room ∙ has-set (hasRoom (slotAt ss n .state)) r l ∙ soft-test (slotAt ss n .state) r e
@@ -57,16 +55,8 @@ module _ {ss : List Slot} {n m q : ℕ} (below : RoomsBelow ss n m) (room : q �
   in-room : (r : ℕ) → r < 64 → has q r ≡ true → HasRoom ss n r
   in-room r l h = test-soft (slotAt ss n .state) r (sym (has-set (hasRoom (slotAt ss n .state)) r l) ∙ ap (λ (x : ℕ). has x r) (sym room) ∙ h)
 
-  pub rooms-more : RoomsBelow ss (n + 1) (bitOr m q)
-  rooms-more = record {
-    all = λ i r l k e. has-or m q r ∙ by i r l k e (ℕ-discrete i n);
-    only = λ r l h. ⊎-elim (λ p. let z = below .only r l p in (z .0, omega arith, z .2)) (λ p. (n, omega arith, in-room r l p))
-        (or-true (has m r) (has q r) (sym (has-or m q r) ∙ h));
-  }
-    where
-      by : (i r : ℕ) → i < n + 1 → r < 64 → HasRoom ss i r → Dec (i ≡ n) → (has m r || has q r) ≡ true
-      by i r l k e (yes d) = true-or-r (has m r) (room-in r k (subst (λ (x : ℕ). HasRoom ss x r) d e))
-      by i r l k e (no d) = true-or-l (has q r) (below .all i r (omega arith) k e)
+  pub rooms-more : RoomsBelow ss (n + 1) (setOf (λ k. has m k || has q k))
+  rooms-more = gathered-more below q room-in in-room
 
   -- the room of slot n is taken just where a slot below has it
   pub meets-shares : Meet m q → (j r : ℕ) × (j < n) × HasRoom ss n r × HasRoom ss j r

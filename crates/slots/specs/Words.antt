@@ -27,10 +27,11 @@ says word.Hard b s = isHard (s .state) && eqb (s .block) b
 abbrev pub Carries : List Slot → ℕ → ℕ → Type 0
 Carries ss n i = (used ss i ≡ true) × (slotAt ss i .number ≡ n)
 
--- r is a slot that is in use and has the number n, or 64 where there is none
+-- r is the lowest slot that is in use and has the number n, or 64 where there is none
 pub record Found (ss : List Slot) (n r : ℕ) : Type 0 where
+  pub most : r ≤ slots
   pub there : r < slots → Carries ss n r
-  pub nowhere : slots ≤ r → (i : ℕ) → i < slots → Carries ss n i → ⊥
+  pub none-below : (i : ℕ) → i < r → Carries ss n i → ⊥
 
 -- the word holds of some slot, on the block
 abbrev pub Some : List Slot → Word → ℕ → Type 0
@@ -48,7 +49,11 @@ hasRoom (state.Waiting hold.Hard) r = false
 hasRoom (state.Waiting (hold.Soft q)) r = eqb r q
 hasRoom (state.InFlight k) r = false
 
--- of the rooms that a set can have, m has just those of the slots below n; no public promise cites this, only the walks that gather rooms
-pub record RoomsBelow (ss : List Slot) (n m : ℕ) : Type 0 where
-  pub all : (i r : ℕ) → i < n → r < 64 → HasRoom ss i r → has m r ≡ true
-  pub only : (r : ℕ) → r < 64 → has m r ≡ true → (i : ℕ) × (i < n) × HasRoom ss i r
+-- the set m is gathered from the slots below n: it has, of what a set can have, just what one of them gives
+pub record Gathered (Gives : ℕ → ℕ → Type 0) (n m : ℕ) : Type 0 where
+  pub all : (i r : ℕ) → i < n → r < 64 → Gives i r → has m r ≡ true
+  pub only : (r : ℕ) → r < 64 → has m r ≡ true → (i : ℕ) × (i < n) × Gives i r
+
+-- m has just the rooms of the slots below n; no public promise cites this, only the walks that gather rooms
+abbrev pub RoomsBelow : List Slot → ℕ → ℕ → Type 0
+RoomsBelow ss = Gathered (HasRoom ss)

@@ -1,12 +1,10 @@
-// Whether a table is sound: each slot by itself, then each beside those below it.
-ghost use Prim.Native.Nat.{_<_};
+// Whether a table is sound: each patch by itself, then beside those of the slots below it.
 ghost use mathlib.Core.Path.{_≡_};
+ghost use lib.ListN.{length};
 ghost use Rattle.masks.specs.Decides.{Decides};
 ghost use Rattle.rules.specs.Table.{Sound, tableOf};
-ghost use Rattle.slots.specs.Tests.{roomIn, InRange, SoundAlone, NumberApart};
-use crate::walks::numbers_of;
-use crate::walks::set_of;
-use crate::words::Word;
+ghost use Rattle.slots.specs.Tests.{roomIn, HeaderInRange, InRange, Alone, Marking};
+use crate::walks::find;
 use crate::words::is_used;
 use crate::words::room_set;
 use rules::Hold;
@@ -30,6 +28,25 @@ fn room_of(u: State) -> Room
         },
         State::InFlight(_) => Room::Nowhere,
     }
+}
+
+// Whether the first and the next number are within their bounds.
+fn header_in_range(first: u32, next: u32) -> bool
+    ensures { λ r. ⌜ Decides (HeaderInRange first next) r ⌝ }
+{
+    if first < 1 {
+        return false;
+    }
+    if 1000000000 < first {
+        return false;
+    }
+    if next < first {
+        return false;
+    }
+    if 1000000001 < next {
+        return false;
+    }
+    true
 }
 
 // Whether number, block and range are within their bounds. No sum can wrap: the length is at most 64.
@@ -57,23 +74,17 @@ fn in_range(s: Slot, first: u32, next: u32) -> bool
     true
 }
 
-// Whether slot i is sound by itself; `used` is the set of the slots in use.
-fn sound_alone(s: Slot, i: usize, used: u64, first: u32, next: u32) -> bool
-    ensures { λ r. ⌜ Decides (SoundAlone first next used i s) r ⌝ }
+// Whether the patch of slot i is sound by itself.
+fn sound_alone(s: Slot, i: usize, first: u32, next: u32) -> bool
+    ensures { λ r. ⌜ Decides (Alone first next i s) r ⌝ }
 {
-    let u = s.state;
-    if !is_used(u) {
-        return true;
-    }
     if !in_range(s, first, next) {
-        return false;
-    }
-    if !masks::within(s.befores, used) {
         return false;
     }
     if masks::has(s.befores, i) {
         return false;
     }
+    let u = s.state;
     let Room::At(r) = room_of(u) else {
         return true;
     };
@@ -83,60 +94,53 @@ fn sound_alone(s: Slot, i: usize, used: u64, first: u32, next: u32) -> bool
     true
 }
 
-// Whether slot i, if it is in use, has another number than each one in use below it; every two
-// slots are so compared once.
-fn number_apart(numbers: &[u32; 64], used: u64, i: usize) -> bool
-    requires { ⌜ i < 64 ⌝ }
-    ensures { λ r. ⌜ Decides (NumberApart (now (numbers .entry)) used i) r ⌝ }
+// Marks a number by its ten lowest digits, and says whether that mark was there: a number that
+// comes again finds its mark, and so does one that only ends in the same digits.
+fn mark(marks: &mut [u64; 16], n: u32) -> bool
+    requires { ⌜ length (now marks) ≡ 16 ⌝ }
+    ensures { λ r. ⌜ Marking (now (marks .entry)) n r (now (marks .exit)) ⌝ }
 {
-    if !masks::has(used, i) {
-        return true;
-    }
-    let n = numbers[i];
-    for j in 0..i {
-        if numbers[j] == n {
-            if masks::has(used, j) {
-                return false;
-            }
-        }
-    }
-    true
+    let at = (n / 64 % 16) as usize;
+    let digits = (n % 64) as usize;
+    let marked = marks[at];
+    marks[at] = masks::with(marked, digits);
+    masks::has(marked, digits)
 }
 
-// The first and the next number, then slot by slot; `taken` has the rooms of the slots passed. A
-// slot's room is looked up only after the slot is sound alone, so that it is a room of the set.
+// The first and the next number, then slot by slot. What is asked of a patch beside others is
+// gathered along the way, so that one walk does: the rooms, the slots in use, all befores, and the
+// marks of the numbers, of which only one that is there already asks for a search.
 pub fn is_sound(first: u32, next: u32, slots: [Slot; 64]) -> bool
     ensures { λ r. ⌜ Decides (Sound (tableOf first next slots)) r ⌝ }
 {
-    if first < 1 {
+    if !header_in_range(first, next) {
         return false;
     }
-    if 1000000000 < first {
-        return false;
-    }
-    if next < first {
-        return false;
-    }
-    if 1000000001 < next {
-        return false;
-    }
-    let used = set_of(slots, Word::Used, 0);
-    let numbers = numbers_of(slots);
+    let mut marks: [u64; 16] = [0; 16];
     let mut taken: u64 = 0;
+    let mut used: u64 = 0;
+    let mut befores: u64 = 0;
     for i in 0..64 {
         let s = slots[i];
-        if !sound_alone(s, i, used, first, next) {
-            return false;
-        }
-        if !number_apart(&numbers, used, i) {
-            return false;
-        }
         let u = s.state;
+        if !is_used(u) {
+            continue;
+        }
+        if !sound_alone(s, i, first, next) {
+            return false;
+        }
+        if mark(&mut marks, s.number) {
+            if find(slots, s.number) < i {
+                return false;
+            }
+        }
         let room = room_set(u);
         if masks::meets(taken, room) {
             return false;
         }
-        taken = taken | room;
+        taken = masks::joined(taken, room);
+        used = masks::with(used, i);
+        befores = masks::joined(befores, s.befores);
     }
-    true
+    masks::within(befores, used)
 }

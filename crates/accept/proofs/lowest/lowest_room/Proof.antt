@@ -17,7 +17,7 @@ use Rattle.accept.proofs.lowest.lowest_room.Statement.{statement}
 use Rattle.accept.proofs.lowest.lowest_room.Tie as tie
 
 -- a room is free just where it is not in the set of the rooms taken
-module _ {ss : List Slot} {m : ℕ} (taken : RoomsBelow ss 64 m) (r : ℕ) (l : r < 64) where
+module _ (ss : List Slot) {m : ℕ} (taken : RoomsBelow ss 64 m) (r : ℕ) (l : r < 64) where
   absent-free : has m r ≡ false → FreeRoom ss r
   absent-free e i b h = clash (taken .all i r b l h) e
 
@@ -45,9 +45,10 @@ has-requires c κs = search needs
 returns : tie.Need-returns Inv-loop μ-loop
 returns c =
     let at = c .before .before in
+    let ss = at .before .before .before .args .slots in
     let taken = at .before .before .taken-rooms .ensures in
-    found-lowest (at .loop-test .taken) (absent-free taken _ (omega arith) (sym (c .before .has .ensures) ∙ not-true _ (c .if1 .taken)))
-    (λ k l. taken-not-free taken k (omega arith) (at .before .loop .inv .1 k l))
+    found-lowest (at .loop-test .taken) (absent-free ss taken _ (omega arith) (sym (c .before .has .ensures) ∙ not-true _ (c .if1 .taken)))
+    (λ k l. taken-not-free ss taken k (omega arith) (at .before .loop .inv .1 k l))
 
 add-r : tie.Need-add-r Inv-loop μ-loop
 add-r c = search needs
@@ -64,7 +65,7 @@ loop-again c = (
 returns-2 : tie.Need-returns-2 Inv-loop μ-loop
 returns-2 c =
     let at = c .before in
-    nowhere-lowest (c .loop-test .left) (λ k l. taken-not-free (at .before .taken-rooms .ensures) k (omega arith) (at .loop .inv .1 k l))
+    nowhere-lowest (c .loop-test .left) (λ k l. taken-not-free (at .before .before .args .slots) (at .before .taken-rooms .ensures) k (omega arith) (at .loop .inv .1 k l))
 
 pub lowest-room-spec : {M : Type 1} → statement M
 lowest-room-spec =

@@ -49,7 +49,7 @@ returns-4 c =
     let a = e .before .before .before .before .before .before .before .args in
     let d = issued-here e in
     ask-granted (seen (a .self)) (a .number) ask.Committed refl (sound-here (e .before .before .before .before)) d
-    (Asked.committed (d, λ i s. c .before .find .ensures .nowhere (c .if4 .taken) i (s .0) (s .1, s .2)))
+    (Asked.committed (d, λ i s. c .before .find .ensures .none-below i (omega arith) (s .1, s .2)))
 
 mul-s : tie.Need-mul-s
 mul-s c = search needs

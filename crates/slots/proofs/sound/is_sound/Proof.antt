@@ -1,47 +1,67 @@
 -- `slots::sound::is_sound` meets its contract. The loop's invariant: each slot passed is sound alone and apart from those below it, and
--- `taken` has the rooms of the slots passed. Assumes nothing.
-use Prim.Native.Nat.{ℕ, _≤_, _<_, _-_}
-use mathlib.Core.Path.{ap}
-use native.Mathlib.Nat.{not-le-of-lt}
+-- the sets and the marks have what the slots passed give. Assumes nothing.
+use Prim.Native.Nat.{ℕ, _^_, _≤_, _<_, _-_}
+use mathlib.Core.Path.{_≡_, sym, ap, _∙_, subst}
+use mathlib.Core.Bool.{true}
+use mathlib.Core.List.{List}
+use mathlib.Core.Logic.{⊎-elim}
 use native.Mathlib.Omega.{arith}
 use borrow.Author.Count.{below-none, below-more}
 use borrow.Author.Needs.{needs}
-use Rattle.masks.proofs.Decided.{yes-of, no-of, yes-not, no-not}
+use borrow.Author.Tests.{not-true, not-false}
+use lib.ListN.{length}
+use Rattle.masks.specs.Sets.{setBelow}
+use Rattle.masks.proofs.Decided.{clash, yes-of, no-of, yes-not, no-not, decides}
+use Rattle.masks.proofs.Laws as sets
+use Rattle.rules.specs.declared.Slot.{Slot}
 use Rattle.rules.specs.Slots.{isUsed}
-use Rattle.rules.specs.Table.{Sound, tableOf}
-use Rattle.slots.specs.Tests.{roomIn, SoundAlone, NumberApart}
-use Rattle.slots.specs.Words.{RoomsBelow}
+use Rattle.rules.specs.Table.{Sound, tableOf, used, slotAt}
+use Rattle.slots.specs.Tests.{roomIn, HeaderInRange, Alone, marked}
+use Rattle.slots.specs.Words.{Gathered, RoomsBelow}
+use Rattle.slots.proofs.Gathered.{gathered-none, gathered-pass, gathered-more}
 use Rattle.slots.proofs.Rooms.{rooms-none, rooms-more, meets-shares, shares-meets}
-use Rattle.slots.proofs.Tested.{Tested, sound-tested, tested-sound}
+use Rattle.slots.proofs.Tested.{Tested, Follows, NumberApart, sound-tested, sound-sub, tested-sound}
 use Rattle.slots.proofs.sound.is_sound.Statement.{statement}
 use Rattle.slots.proofs.sound.is_sound.Tie as tie
 
+-- the numbers of the slots below i are marked
+abbrev MarkedBelow : List Slot → ℕ → List ℕ → Type 0
+MarkedBelow ss i marks = (k : ℕ) → k < i → used ss k ≡ true → marked marks (slotAt ss k .number) ≡ true
+
+record Passed (first next : ℕ) (ss : List Slot) (marks : List ℕ) (taken in-use befores i : ℕ) : Type 0 where
+  most : i ≤ 64
+  size : length marks ≡ 16
+  rooms : RoomsBelow ss i taken
+  uses : in-use ≡ setBelow (used ss) i
+  follows : Gathered (Follows ss) i befores
+  fits : befores < 2 ^ 64
+  marks-below : MarkedBelow ss i marks
+  tested : (k : ℕ) → k < i → Tested first next ss k
+
 abbrev Inv-loop : tie.InvT-loop
-Inv-loop first next slots used numbers taken₀ i₀ taken i = (i ≤ 64) × RoomsBelow slots i taken × ((k : ℕ) → k < i → Tested first next used slots numbers k)
+Inv-loop first next slots marks₀ taken₀ used₀ befores₀ i₀ marks taken used befores i = Passed first next slots marks taken used befores i
 
 abbrev μ-loop : tie.MeasureT-loop
-μ-loop first next slots used numbers taken₀ i₀ taken i = 64 - i
+μ-loop first next slots marks₀ taken₀ used₀ befores₀ i₀ marks taken used befores i = 64 - i
+
+header-in-range-requires : tie.Need-header-in-range-requires Inv-loop μ-loop
+header-in-range-requires c κs = search needs
 
 returns : tie.Need-returns Inv-loop μ-loop
-returns c = λ s. not-le-of-lt (c .if1 .taken) (s .first-least)
-
-returns-2 : tie.Need-returns-2 Inv-loop μ-loop
-returns-2 c = λ s. not-le-of-lt (c .if2 .taken) (s .first-most)
-
-returns-3 : tie.Need-returns-3 Inv-loop μ-loop
-returns-3 c = λ s. not-le-of-lt (c .if3 .taken) (s .next-least)
-
-returns-4 : tie.Need-returns-4 Inv-loop μ-loop
-returns-4 c = λ s. not-le-of-lt (c .if4 .taken) (s .next-most)
-
-set-of-requires : tie.Need-set-of-requires Inv-loop μ-loop
-set-of-requires c κs = search needs
-
-numbers-of-requires : tie.Need-numbers-of-requires Inv-loop μ-loop
-numbers-of-requires c κs = search needs
+returns c = λ s. no-not {P = HeaderInRange _ _} (c .before .header-in-range .result) (c .before .header-in-range .ensures) (c .if1 .taken)
+    (record { first-least = s .first-least; first-most = s .first-most; next-least = s .next-least; next-most = s .next-most })
 
 loop-holds : tie.Need-loop-holds Inv-loop μ-loop
-loop-holds c = (omega arith, rooms-none _, below-none _)
+loop-holds c = record {
+  most = omega arith;
+  size = search needs;
+  rooms = rooms-none (c .before .before .args .t3);
+  uses = sym (sets.below-none _);
+  follows = gathered-none;
+  fits = omega arith;
+  marks-below = below-none _;
+  tested = below-none _;
+}
 
 mul-s : tie.Need-mul-s Inv-loop μ-loop
 mul-s c = search needs
@@ -49,44 +69,8 @@ mul-s c = search needs
 array-copy-out-s : tie.Need-array-copy-out-s Inv-loop μ-loop
 array-copy-out-s c = search needs
 
-sound-alone-requires : tie.Need-sound-alone-requires Inv-loop μ-loop
-sound-alone-requires c κs = search needs
-
--- a slot of a sound table passes every test
-passes : (c : tie.In-loop Inv-loop μ-loop)
-    → let known = c .before .before in
-    let a = known .before .before .before .before .before .before .args in
-    Sound (tableOf (a .first) (a .next) (a .t3)) → Tested (a .first) (a .next) (known .before .set-of .result) (a .t3) (known .numbers-of .result) (c .before .loop .i)
-passes c s = let known = c .before .before in sound-tested (known .before .set-of .ensures) (known .numbers-of .ensures) s _ (c .loop-test .taken)
-
-returns-5 : tie.Need-returns-5 Inv-loop μ-loop
-returns-5 c =
-    let at = c .before .before .before in
-    λ s. no-not {P = SoundAlone _ _ _ _ _} (c .before .sound-alone .result) (c .before .sound-alone .ensures) (c .if5 .taken)
-    (passes at s .alone)
-
-number-apart-requires : tie.Need-number-apart-requires Inv-loop μ-loop
-number-apart-requires c κs = search needs
-
-returns-6 : tie.Need-returns-6 Inv-loop μ-loop
-returns-6 c =
-    let at = c .before .before .before .before .before .before in
-    λ s. no-not {P = NumberApart (at .before .before .numbers-of .result) _ _} (c .before .number-apart .result) (c .before .number-apart .ensures) (c .if6 .taken)
-    (passes at s .number)
-
-room-set-requires : tie.Need-room-set-requires Inv-loop μ-loop
-room-set-requires c κs = search needs
-
-meets-requires : tie.Need-meets-requires Inv-loop μ-loop
-meets-requires c κs = search needs
-
-returns-7 : tie.Need-returns-7 Inv-loop μ-loop
-returns-7 c =
-    let at = c .before .before .before .before .before .before .before .before .before in
-    let shared =
-    meets-shares (at .before .loop .inv .1) (c .before .before .room-set .ensures)
-    (yes-of (c .before .meets .result) (c .before .meets .ensures) (c .if7 .taken)) in
-    λ s. passes at s .room (shared .0) (shared .1) (shared .2) (shared .3) (shared .4)
+is-used-requires : tie.Need-is-used-requires Inv-loop μ-loop
+is-used-requires c κs = search needs
 
 add-i : tie.Need-add-i Inv-loop μ-loop
 add-i c = search needs
@@ -96,29 +80,142 @@ loop-less c = search needs
 
 loop-again : tie.Need-loop-again Inv-loop μ-loop
 loop-again c =
-    let rooms = c .before .before in
-    let number = rooms .before in
-    let alone = number .before .before .before in
-    let at = alone .before .before .before in
-    let sound = yes-not {P = SoundAlone _ _ _ _ _} (alone .before .sound-alone .result) (alone .before .sound-alone .ensures) (alone .if5 .left) in (
-      omega arith,
-      rooms-more (at .before .loop .inv .1) (rooms .room-set .ensures),
-      below-more _ _ (at .before .loop .inv .2) (record {
-        alone = sound;
-        number = yes-not {P = NumberApart (at .before .before .numbers-of .result) _ _} (number .before .number-apart .result) (number .before .number-apart .ensures) (number .if6 .left);
-        room = λ j r b e f.
-            let most = sound (ap isUsed e) .room-most r (ap roomIn e) in
-            no-of (c .before .meets .result) (c .before .meets .ensures) (c .if7 .left)
-            (shares-meets (at .before .loop .inv .1) (rooms .room-set .ensures) j r b (omega arith) e f);
-      }),
-    )
+    let at = c .before .before .before .before in
+    let passed = at .loop .inv in
+    let free = sym (c .before .is-used .ensures) ∙ not-true _ (c .if2 .taken) in
+    record {
+      most = omega arith;
+      size = passed .size;
+      rooms = gathered-pass (passed .rooms) (λ r e. clash (ap isUsed e) free);
+      uses = passed .uses ∙ sets.below-pass (used (at .before .before .before .args .t3)) (at .loop .i) free;
+      follows = gathered-pass (passed .follows) (λ r h. clash (h .0) free);
+      fits = passed .fits;
+      marks-below = below-more _ _ (passed .marks-below) (λ u. absurd (clash u free));
+      tested = below-more _ _ (passed .tested) (record {
+        alone = λ u. absurd (clash u free);
+        number = λ u. absurd (clash u free);
+        room = λ j r b e f. clash (ap isUsed e) free;
+      });
+    }
 
-returns-8 : tie.Need-returns-8 Inv-loop μ-loop
-returns-8 c =
+sound-alone-requires : tie.Need-sound-alone-requires Inv-loop μ-loop
+sound-alone-requires c κs = search needs
+
+-- past the first test the slot is in use
+in-use : (c : tie.Else2 Inv-loop μ-loop) → used (c .before .before .before .before .before .before .before .args .t3) (c .before .before .before .before .loop .i) ≡ true
+in-use c = sym (c .before .is-used .ensures) ∙ not-false _ (c .if2 .left)
+
+-- a slot of a sound table passes every test
+passes : (c : tie.Else2 Inv-loop μ-loop)
+    → let at = c .before .before .before .before in
+    let a = at .before .before .before .args in
+    Sound (tableOf (a .first) (a .next) (a .t3)) → Tested (a .first) (a .next) (a .t3) (at .loop .i)
+passes c s = sound-tested s _ (c .before .before .before .loop-test .taken)
+
+returns-2 : tie.Need-returns-2 Inv-loop μ-loop
+returns-2 c =
     let at = c .before .before in
-    let header = at .before .before in
-    tested-sound (at .before .set-of .ensures) (at .numbers-of .ensures) (header .before .before .before .if1 .left) (header .before .before .if2 .left)
-    (header .before .if3 .left) (header .if4 .left) (λ i l. c .before .loop .inv .2 i (omega arith))
+    λ s. no-not {P = Alone _ _ _ _} (c .before .sound-alone .result) (c .before .sound-alone .ensures) (c .if3 .taken)
+    (passes at s .alone (in-use at))
+
+mark-requires : tie.Need-mark-requires Inv-loop μ-loop
+mark-requires c κs = c .before .before .before .before .before .before .before .loop .inv .size
+
+find-requires : tie.Need-find-requires Inv-loop μ-loop
+find-requires c κs = search needs
+
+returns-3 : tie.Need-returns-3 Inv-loop μ-loop
+returns-3 c =
+    let at = c .before .before .before .before .before .before .before in
+    let found = c .before .find .ensures in
+    λ s. passes at s .number (in-use at) _ (c .if5 .taken) (found .there (omega arith))
+
+room-set-requires : tie.Need-room-set-requires Inv-loop μ-loop
+room-set-requires c κs = search needs
+
+meets-requires : tie.Need-meets-requires Inv-loop μ-loop
+meets-requires c κs = search needs
+
+returns-4 : tie.Need-returns-4 Inv-loop μ-loop
+returns-4 c =
+    let at = c .before .before .before .before .before .before .before .before in
+    let shared =
+    meets-shares (at .before .before .before .before .before .before .before .args .t3) (at .before .before .before .before .loop .inv .rooms) (c .before .before .room-set .ensures)
+    (yes-of (c .before .meets .result) (c .before .meets .ensures) (c .if6 .taken)) in
+    λ s. passes at s .room (shared .0) (shared .1) (shared .2) (shared .3) (shared .4)
+
+joined-requires : tie.Need-joined-requires Inv-loop μ-loop
+joined-requires c κs = search needs
+
+with-requires : tie.Need-with-requires Inv-loop μ-loop
+with-requires c κs = search needs
+
+joined-requires-2 : tie.Need-joined-requires-2 Inv-loop μ-loop
+joined-requires-2 c κs = search needs
+
+add-i-2 : tie.Need-add-i-2 Inv-loop μ-loop
+add-i-2 c = search needs
+
+loop-less-2 : tie.Need-loop-less-2 Inv-loop μ-loop
+loop-less-2 c = search needs
+
+-- past the search no slot below has the number
+apart : (c : tie.Joined4 Inv-loop μ-loop)
+    → let at = c .before .before .before .before .before .before .before .before .before in
+    NumberApart (at .before .before .before .args .t3) (at .loop .i)
+apart c =
+    let at = c .before .before .before .before .before .before .before .before .before in
+    ⊎-elim
+    (λ w j b h. w .1 .ensures .none-below j (omega arith) h)
+    (λ w j b h. clash (ap (marked (at .loop .marks)) (sym (h .1)) ∙ at .loop .inv .marks-below j b (h .0)) (sym (c .before .mark .ensures .was) ∙ w .left))
+    (c .if4 .came)
+
+loop-again-2 : tie.Need-loop-again-2 Inv-loop μ-loop
+loop-again-2 c =
+    let free = c .before .before .before in
+    let rooms = free .before .before in
+    let number = rooms .before in
+    let marks = number .before in
+    let alone = marks .before .before in
+    let kept = alone .before .before in
+    let at = kept .before .before .before .before in
+    let ss = at .before .before .before .args .t3 in
+    let passed = at .loop .inv in
+    let u = in-use kept in
+    let sound = yes-not {P = Alone _ _ _ _} (alone .before .sound-alone .result) (alone .before .sound-alone .ensures) (alone .if3 .left) in
+    record {
+      most = omega arith;
+      size = marks .mark .ensures .size ∙ passed .size;
+      rooms = subst (RoomsBelow ss _) (sym (c .before .before .joined .ensures)) (rooms-more ss (passed .rooms) (rooms .room-set .ensures));
+      uses = c .before .with .ensures ∙ sets.with-below (used ss) (at .loop .i) _ (passed .uses) (kept .before .before .before .loop-test .taken) u;
+      follows = subst (Gathered (Follows ss) _) (sym (c .joined2 .ensures)) (gathered-more (passed .follows) _ (λ r l h. h .1) (λ r l h. (u, h)));
+      fits = rw (c .joined2 .ensures) (sets.set-lt _);
+      marks-below = below-more _ _ (λ k l v. marks .mark .ensures .kept _ (passed .marks-below k l v)) (λ v. marks .mark .ensures .is);
+      tested = below-more _ _ (passed .tested) (record {
+        alone = λ v. sound;
+        number = λ v. apart number;
+        room = λ j r b e f.
+            let most = sound .room-most r (ap roomIn e) in
+            no-of (free .before .meets .result) (free .before .meets .ensures) (free .if6 .left)
+            (shares-meets ss (passed .rooms) (rooms .room-set .ensures) j r b (omega arith) e f);
+      });
+    }
+
+within-requires : tie.Need-within-requires Inv-loop μ-loop
+within-requires c κs = search needs
+
+returns-5 : tie.Need-returns-5 Inv-loop μ-loop
+returns-5 c =
+    let at = c .before .before in
+    let start = at .before .before .before in
+    let passed = at .loop .inv in
+    let all : at .loop .i ≡ 64 = omega arith in
+    let follows : Gathered (Follows (start .args .t3)) 64 (at .loop .befores) = subst (λ (n : ℕ). Gathered (Follows (start .args .t3)) n (at .loop .befores)) all (passed .follows) in
+    let uses = passed .uses ∙ ap (setBelow (used (start .args .t3))) all in
+    let header = yes-not {P = HeaderInRange _ _} (at .before .before .header-in-range .result) (at .before .before .header-in-range .ensures) (at .before .if1 .left) in
+    decides (c .within .result)
+    (λ e. tested-sound follows uses header (λ i l. passed .tested i (omega arith)) (yes-of (c .within .result) (c .within .ensures) e))
+    (λ e s. no-of (c .within .result) (c .within .ensures) e (sound-sub follows uses s (passed .fits)))
 
 pub is-sound-spec : {M : Type 1} → statement M
 is-sound-spec =
@@ -126,23 +223,28 @@ is-sound-spec =
     (tie.spec
     Inv-loop
     μ-loop
+    header-in-range-requires
     returns
-    returns-2
-    returns-3
-    returns-4
-    set-of-requires
-    numbers-of-requires
     loop-holds
     mul-s
     array-copy-out-s
-    sound-alone-requires
-    returns-5
-    number-apart-requires
-    returns-6
-    room-set-requires
-    meets-requires
-    returns-7
+    is-used-requires
     add-i
     loop-less
     loop-again
-    returns-8)
+    sound-alone-requires
+    returns-2
+    mark-requires
+    find-requires
+    returns-3
+    room-set-requires
+    meets-requires
+    returns-4
+    joined-requires
+    with-requires
+    joined-requires-2
+    add-i-2
+    loop-less-2
+    loop-again-2
+    within-requires
+    returns-5)

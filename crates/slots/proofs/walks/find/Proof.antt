@@ -32,8 +32,9 @@ returns : tie.Need-returns Inv-loop μ-loop
 returns c =
     let l = c .before .before .before .before .before .loop-test .taken in
     record {
+      most = omega arith;
       there = λ h. (sym (c .before .is-used .ensures) ∙ c .if2 .taken, c .before .before .if1 .taken);
-      nowhere = λ e. absurd (omega arith);
+      none-below = c .before .before .before .before .before .before .loop .inv .1;
     }
 
 add-i : tie.Need-add-i Inv-loop μ-loop
@@ -51,8 +52,9 @@ loop-again c = (
 
 returns-2 : tie.Need-returns-2 Inv-loop μ-loop
 returns-2 c = record {
+  most = omega arith;
   there = λ h. absurd (omega arith);
-  nowhere = λ e k l. c .before .loop .inv .1 k (omega arith);
+  none-below = λ k l. c .before .loop .inv .1 k (omega arith);
 }
 
 pub find-spec : {M : Type 1} → statement M

@@ -9,17 +9,13 @@ use native.Mathlib.Omega.{arith}
 use borrow.Author.Needs.{needs}
 use lib.Dec.{eqb}
 use Rattle.masks.specs.Sets.{has, setBelow, setOf}
-use Rattle.masks.proofs.Laws.{below-none, below-pass, below-with}
+use Rattle.masks.proofs.Laws.{below-none, below-pass, with-below}
 use Rattle.rules.specs.declared.Slot.{Slot}
 use Rattle.rules.specs.Table.{slotAt}
 use Rattle.slots.specs.declared.words.Word.{Word}
 use Rattle.slots.specs.Words.{says}
 use Rattle.slots.proofs.walks.set_of.Statement.{statement}
 use Rattle.slots.proofs.walks.set_of.Tie as tie
-
--- one slot more that passes, put into the set m of those below it
-with-is-below : (p : ℕ → Bool) (i m : ℕ) → m ≡ setBelow p i → i < 64 → p i ≡ true → setOf (λ k. has m k || eqb k i) ≡ setBelow p (i + 1)
-with-is-below p i m e l h = ap (λ (x : ℕ). setOf (λ k. has x k || eqb k i)) e ∙ below-with p i l h
 
 -- the test that the walk asks of slot k
 abbrev passes : Word → ℕ → List Slot → ℕ → Bool
@@ -60,7 +56,7 @@ loop-again c =
     let said = sym (c .before .says .ensures) in (
       omega arith,
       ⊎-elim
-          (λ w. w .2 ∙ w .1 .ensures ∙ with-is-below p (at .loop .i) _ (at .loop .inv .1) (c .before .before .before .loop-test .taken) (said ∙ w .0 .taken))
+          (λ w. w .2 ∙ w .1 .ensures ∙ with-below p (at .loop .i) _ (at .loop .inv .1) (c .before .before .before .loop-test .taken) (said ∙ w .0 .taken))
           (λ w. w .1 ∙ at .loop .inv .1 ∙ below-pass p (at .loop .i) (said ∙ w .0 .left))
           (c .if1 .came),
     )
