@@ -1,6 +1,6 @@
 -- A new patch would be hard just where no slot holds the block's waiting patches back, their set taken at once. Assumes nothing.
 use Prim.Native.Nat.{ℕ, _^_, _<_}
-use mathlib.Core.Path.{_≡_, sym, ap, _∙_, subst}
+use mathlib.Core.Path.{_≡_, sym, _∙_, subst}
 use mathlib.Core.Bool.{true, not, _&&_}
 use mathlib.Core.List.{List}
 use mathlib.Core.Logic.{⊎-elim}
@@ -8,7 +8,7 @@ use borrow.Author.Tests.{ne-eqb, eq-eqb, not-true}
 use lib.Dec.{eqb}
 use Rattle.masks.specs.Sets.{has, setOf}
 use Rattle.masks.proofs.Decided.{clash, true-or-false, and-true, true-and}
-use Rattle.masks.proofs.Laws.{has-set, has-slot, set-lt}
+use Rattle.masks.proofs.Laws.{has-of, has-slot, set-lt}
 use Rattle.rules.specs.declared.Slot.{Slot}
 use Rattle.rules.specs.Sizes.{slots}
 use Rattle.rules.specs.Table.{slotAt, used, waitsOn}
@@ -17,7 +17,7 @@ use Rattle.accept.specs.Tests.{HoldsBack}
 
 module _ (ss : List Slot) (b : ℕ) {m : ℕ} (is-waiting : m ≡ setOf (waitsOn ss b)) where
   waits : (i : ℕ) → i < slots → has m i ≡ waitsOn ss b i
-  waits i l = ap (λ (x : ℕ). has x i) is-waiting ∙ has-set (waitsOn ss b) i l
+  waits i l = has-of (waitsOn ss b) m i is-waiting l
 
   waiting-lt : m < 2 ^ 64
   waiting-lt = subst (λ (x : ℕ). x < 2 ^ 64) (sym is-waiting) (set-lt (waitsOn ss b))

@@ -44,9 +44,7 @@ pub fn befores(slots: [Slot; 64], block: u32, offset: u32, bytes: &[u8], numbers
 {
     let mut set: u64 = 0;
     for i in 0..64 {
-        if follows(slots[i], block, offset, bytes, numbers) {
-            set = masks::with(set, i);
-        }
+        set = masks::with_if(set, i, follows(slots[i], block, offset, bytes, numbers));
     }
     set
 }

@@ -2,13 +2,13 @@
 ghost use mathlib.Core.Path.{_≡_};
 ghost use Rattle.masks.specs.Decides.{Decides};
 ghost use Rattle.rules.specs.Create.{WouldBeHard};
+ghost use Rattle.slots.specs.Words.{RoomsBelow};
 ghost use Rattle.accept.specs.Asked.{Held};
 ghost use Rattle.accept.specs.Tests.{HoldsBack};
-use crate::lowest::lowest_room;
+use crate::lowest::lowest_outside;
 use rules::Hold;
 use rules::Slot;
-use slots::walks::set_of;
-use slots::words::Word;
+use slots::patches::patches_on;
 use slots::words::is_used;
 
 pub enum Holding {
@@ -33,7 +33,8 @@ fn holds_back(s: Slot, block: u32, waiting: u64) -> bool
 pub fn would_be_hard(slots: [Slot; 64], block: u32) -> bool
     ensures { λ r. ⌜ Decides (WouldBeHard slots block) r ⌝ }
 {
-    let waiting = set_of(slots, Word::Waiting, block);
+    let on = patches_on(slots, block);
+    let waiting = on.waiting;
     for k in 0..64 {
         if holds_back(slots[k], block, waiting) {
             return false;
@@ -42,16 +43,16 @@ pub fn would_be_hard(slots: [Slot; 64], block: u32) -> bool
     true
 }
 
-// Hard, or soft with the lowest free room.
-pub fn hold_for(slots: [Slot; 64], block: u32) -> Holding
-    ensures { λ r. ⌜ Held slots block r ⌝ }
+// Hard, or soft with the lowest free room; `taken` is the set of the rooms that are not.
+pub fn hold_for(slots: [Slot; 64], block: u32, taken: u64) -> Holding
+    ensures { λ r. ⌜ (RoomsBelow slots 64 taken → Held slots block r) ⌝ }
 {
     if would_be_hard(slots, block) {
         return Holding::Of(Hold::Hard);
     }
-    let r = lowest_room(slots);
+    let r = lowest_outside(taken, 16);
     if r < 16 {
-        Holding::Of(Hold::Soft(r))
+        Holding::Of(Hold::Soft(r as u32))
     } else {
         Holding::Full
     }

@@ -5,10 +5,9 @@ use crate::Table;
 use rules::AskAnswer;
 use rules::CountAnswer;
 use rules::State;
+use slots::patches::patches_on;
 use slots::sound::is_sound;
-use slots::walks::count_of;
 use slots::walks::find;
-use slots::words::Word;
 
 impl Table {
     // Where the patch with the number is. A number in no slot has committed, maybe long ago.
@@ -49,6 +48,7 @@ impl Table {
         if 63 < block {
             return CountAnswer::Refused(3);
         }
-        CountAnswer::Granted(count_of(slots, Word::Waiting, block))
+        let on = patches_on(slots, block);
+        CountAnswer::Granted(u64::count_ones(on.waiting))
     }
 }

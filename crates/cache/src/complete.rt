@@ -5,9 +5,8 @@ use crate::Completed;
 use crate::Table;
 use moves::complete::completed;
 use rules::Answer;
+use slots::patches::patches_on;
 use slots::sound::is_sound;
-use slots::walks::any;
-use slots::words::Word;
 
 impl Table {
     pub fn complete(self, block: u32) -> Completed
@@ -26,14 +25,16 @@ impl Table {
                 answer: Answer::Refused(3),
             };
         }
-        if !any(slots, Word::InFlight, block) {
+        let on = patches_on(slots, block);
+        let landed = on.in_flight;
+        if landed == 0 {
             return Completed {
                 table: self,
                 answer: Answer::Refused(14),
             };
         }
         Completed {
-            table: self.with_slots(completed(slots, block)),
+            table: self.with_slots(completed(slots, landed)),
             answer: Answer::Granted,
         }
     }

@@ -2,6 +2,8 @@
 ghost use Prim.Native.Nat.{_+_, _≤_, _<_};
 ghost use lib.ListN.{length};
 ghost use mathlib.Core.Path.{_≡_};
+ghost use Rattle.masks.specs.Decides.{Decides};
+ghost use Rattle.rules.specs.Table.{Sound};
 ghost use Rattle.rules.specs.Create.{patch};
 ghost use Rattle.rules.specs.Refusals.{createCases};
 ghost use Rattle.rules.specs.Calls.{Creates};
@@ -12,14 +14,14 @@ use crate::Table;
 use accept::befores::befores;
 use accept::hold::Holding;
 use accept::hold::hold_for;
-use accept::lowest::lowest_slot;
+use accept::lowest::lowest_outside;
 use accept::named::unissued;
 use moves::create::accepted;
 use rules::CreateAnswer;
 use rules::Hold;
 use rules::Slot;
 use rules::State;
-use slots::sound::is_sound;
+use slots::sound::judge;
 
 // The old bytes of a soft patch's range, n from place `at`, into the first bytes of its room.
 fn keep(undo: &mut [u8], image: &[u8], hold: Hold, at: usize, n: usize)
@@ -31,7 +33,8 @@ fn keep(undo: &mut [u8], image: &[u8], hold: Hold, at: usize, n: usize)
 }
 
 impl Table {
-    // The first of the refusals 1 to 8 that holds, or 0. No sum is formed before its parts are bounded.
+    // The first of the refusals 1 to 8 that holds, or 0; `sound` says whether the table is. No sum is
+    // formed before its parts are bounded.
     fn create_refusal(
         self,
         image: &[u8],
@@ -40,7 +43,9 @@ impl Table {
         offset: u32,
         bytes: &[u8],
         named: &[u32],
+        sound: bool,
     ) -> u32
+        requires { ⌜ Decides (Sound (seen self)) sound ⌝ }
         ensures { λ r. ⌜ Judged (createCases (seen self) (now (image .entry)) (now (undo .entry)) (record { block = block; offset = offset; bytes = now (bytes .entry); named = now (named .entry) })) (CreateReady (seen self) (now (image .entry)) (now (undo .entry)) (record { block = block; offset = offset; bytes = now (bytes .entry); named = now (named .entry) })) r ⌝ }
     {
         if image.len() != 16384 {
@@ -49,8 +54,7 @@ impl Table {
         if undo.len() != 1024 {
             return 1;
         }
-        let slots = self.slots;
-        if !is_sound(self.first, self.next, slots) {
+        if !sound {
             return 2;
         }
         if 63 < block {
@@ -115,22 +119,23 @@ impl Table {
     ) -> Created
         ensures { λ r. ⌜ Creates (seen self) (now (image .entry)) (now (undo .entry)) (record { block = block; offset = offset; bytes = now (bytes .entry); named = now (named .entry) }) (creation r (now (image .exit)) (now (undo .exit))) ⌝ }
     {
-        let refusal = self.create_refusal(image, undo, block, offset, bytes, named);
+        let slots = self.slots;
+        let verdict = judge(self.first, self.next, slots);
+        let refusal = self.create_refusal(image, undo, block, offset, bytes, named, verdict.sound);
         if refusal != 0 {
             return Created {
                 table: self,
                 answer: CreateAnswer::Refused(refusal),
             };
         }
-        let slots = self.slots;
-        let j = lowest_slot(slots);
+        let j = lowest_outside(verdict.used, 64);
         if 63 < j {
             return Created {
                 table: self,
                 answer: CreateAnswer::Refused(9),
             };
         }
-        let Holding::Of(hold) = hold_for(slots, block) else {
+        let Holding::Of(hold) = hold_for(slots, block, verdict.rooms) else {
             return Created {
                 table: self,
                 answer: CreateAnswer::Refused(10),

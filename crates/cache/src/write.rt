@@ -1,6 +1,7 @@
 // Write: the largest set of the block's waiting patches that may go, goes.
 ghost use Rattle.rules.specs.Refusals.{writeCases};
 ghost use Rattle.rules.specs.Calls.{Writes};
+ghost use Rattle.slots.specs.Words.{PatchesOn};
 ghost use Rattle.cache.specs.Seen.{seen, writing};
 ghost use Rattle.cache.specs.Judged.{Judged, WriteReady};
 use crate::Table;
@@ -9,13 +10,14 @@ use moves::write::sent;
 use rules::WriteAnswer;
 use send::hand_out::hand_out;
 use send::largest::largest;
+use slots::patches::Patches;
+use slots::patches::patches_on;
 use slots::sound::is_sound;
-use slots::walks::any;
-use slots::words::Word;
 
 impl Table {
     // The first of the refusals 1 to 12 that holds, or 0.
-    fn write_refusal(self, image: &[u8], undo: &[u8], handed: &[u8], block: u32) -> u32
+    fn write_refusal(self, image: &[u8], undo: &[u8], handed: &[u8], block: u32, on: Patches) -> u32
+        requires { ⌜ PatchesOn (self .slots) block on ⌝ }
         ensures { λ r. ⌜ Judged (writeCases (seen self) (now (image .entry)) (now (undo .entry)) (now (handed .entry)) block) (WriteReady (seen self) (now (image .entry)) (now (undo .entry)) (now (handed .entry)) block) r ⌝ }
     {
         if image.len() != 16384 {
@@ -34,10 +36,10 @@ impl Table {
         if 63 < block {
             return 3;
         }
-        if any(slots, Word::InFlight, block) {
+        if on.in_flight != 0 {
             return 11;
         }
-        if !any(slots, Word::Waiting, block) {
+        if on.waiting == 0 {
             return 12;
         }
         0
@@ -46,15 +48,16 @@ impl Table {
     pub fn write(self, image: &[u8], undo: &[u8], handed: &mut [u8], block: u32) -> Written
         ensures { λ r. ⌜ Writes (seen self) (now (image .entry)) (now (undo .entry)) (now (handed .entry)) block (writing r (now (image .exit)) (now (undo .exit)) (now (handed .exit))) ⌝ }
     {
-        let refusal = self.write_refusal(image, undo, handed, block);
+        let slots = self.slots;
+        let on = patches_on(slots, block);
+        let refusal = self.write_refusal(image, undo, handed, block, on);
         if refusal != 0 {
             return Written {
                 table: self,
                 answer: WriteAnswer::Refused(refusal),
             };
         }
-        let slots = self.slots;
-        let set = largest(slots, block);
+        let set = largest(slots, on);
         if set == 0 {
             return Written {
                 table: self,
@@ -69,6 +72,7 @@ impl Table {
             self.first,
             self.next,
             slots,
+            on.waiting,
             set,
         );
         Written {

@@ -29,6 +29,11 @@ yes-not b d e = yes-of b d (not-false b e)
 pub no-not : {P : Type 0} (b : Bool) → Decides P b → not b ≡ true → P → ⊥
 no-not b d e = no-of b d (not-true b e)
 
+-- the answer, from what it decides
+pub said-yes : {P : Type 0} (b : Bool) → Decides P b → P → b ≡ true
+said-yes true d p = refl
+said-yes false d p = absurd (d p)
+
 -- an answer made from what it says
 pub decides : {P : Type 0} (b : Bool) → (b ≡ true → P) → (b ≡ false → P → ⊥) → Decides P b
 decides true y n = y refl

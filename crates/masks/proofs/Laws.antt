@@ -139,6 +139,10 @@ has-above p n i l = digit-has (setBelow p n) i false (bit-high n (setBelow p n) 
 pub has-set : (p : ℕ → Bool) (i : ℕ) → i < 64 → has (setOf p) i ≡ p i
 has-set p i l = has-below p 64 i l
 
+-- what a set has that is known to be the set of what passes
+pub has-of : (p : ℕ → Bool) (m i : ℕ) → m ≡ setOf p → i < 64 → has m i ≡ p i
+has-of p m i e l = ap (λ (x : ℕ). has x i) e ∙ has-set p i l
+
 pub set-lt : (p : ℕ → Bool) → setOf p < 2 ^ 64
 set-lt p = below-lt p 64
 
@@ -157,6 +161,13 @@ below-ext (suc n) p q f =
 
 pub set-ext : (p q : ℕ → Bool) → ((i : ℕ) → i < 64 → p i ≡ q i) → setOf p ≡ setOf q
 set-ext p q f = below-ext 64 p q f
+
+-- a set is 0 just where nothing passes
+pub set-none : (p : ℕ → Bool) {m : ℕ} → m ≡ setOf p → m ≡ 0 → (i : ℕ) → i < 64 → p i ≡ true → ⊥
+set-none p e z i l h = clash (has-set p i l ∙ h) (ap (λ (x : ℕ). has x i) (sym e ∙ z) ∙ has-none i)
+
+pub set-some : (p : ℕ → Bool) {m : ℕ} → m ≡ setOf p → (m ≡ 0 → ⊥) → (i : ℕ) × (i < 64) × (p i ≡ true)
+set-some p e n = let z = a-member (setOf p) (set-lt p) (λ q. n (e ∙ q)) in (z .0, z .1, sym (has-set p (z .0) (z .1)) ∙ z .2)
 
 -- a loop over the slots: none passed, one more that passes, one that does not
 pub below-none : (p : ℕ → Bool) → setBelow p 0 ≡ 0
@@ -181,6 +192,17 @@ below-with p i l e =
 -- the same of a set that is known to be that of the slots below i
 pub with-below : (p : ℕ → Bool) (i m : ℕ) → m ≡ setBelow p i → i < 64 → p i ≡ true → setOf (λ k. has m k || eqb k i) ≡ setBelow p (i + 1)
 with-below p i m e l h = ap (λ (x : ℕ). setOf (λ k. has x k || eqb k i)) e ∙ below-with p i l h
+
+-- no slot besides
+pub with-none : (m : ℕ) → m < 2 ^ 64 → setOf (λ k. has m k || false) ≡ m
+with-none m l = set-ext (λ k. has m k || false) (has m) (λ k h. or-false (has m k)) ∙ set-has m l
+
+-- the same where the slot goes into the set just if it passes
+pub with-if-below : (p : ℕ → Bool) (i m : ℕ) (goes : Bool) → m ≡ setBelow p i → i < 64 → goes ≡ p i
+    → setOf (λ k. has m k || (goes && eqb k i)) ≡ setBelow p (i + 1)
+with-if-below p i m true e l h = with-below p i m e l (sym h)
+with-if-below p i m false e l h =
+    with-none m (rw e (lt-of-lt-of-le (below-lt p i) (pow-mono {j = 64} (omega arith)))) ∙ e ∙ below-pass p i (sym h)
 
 -- ---- how many pass
 

@@ -27,6 +27,13 @@ pub fn with(set: u64, i: usize) -> u64
     set | 1u64 << i
 }
 
+// The set with slot i besides, where `goes` says so.
+pub fn with_if(set: u64, i: usize, goes: bool) -> u64
+    ensures { λ r. ⌜ r ≡ setOf (λ k. has set k || (goes && eqb k i)) ⌝ }
+{
+    if goes { with(set, i) } else { set }
+}
+
 // The set of the slots that are in a or in b.
 pub fn joined(a: u64, b: u64) -> u64
     ensures { λ r. ⌜ r ≡ setOf (λ k. has a k || has b k) ⌝ }

@@ -39,5 +39,17 @@ module _ {turn : ℕ → Slot → Slot} {was : List Slot} where
       at k b (yes q) = rw q here
       at k b (no n) = getD-set-other now i k s freeSlot n ∙ w .passed k (omega arith)
 
+  -- a slot that the turn leaves as it is need not be set
+  pub walk-passes : {now : List Slot} {i : ℕ} → Walked turn was now i → turn i (slotAt now i) ≡ slotAt now i → Walked turn was now (i + 1)
+  walk-passes {now} {i} w e = record {
+    size = w .size;
+    passed = λ k b. at k b (ℕ-discrete k i);
+    ahead = λ k b. w .ahead k (omega arith);
+  }
+    where
+      at : (k : ℕ) → k < i + 1 → Dec (k ≡ i) → slotAt now k ≡ turn k (slotAt was k)
+      at k b (yes q) = rw q (sym e ∙ ap (turn i) (w .ahead i (omega arith)))
+      at k b (no n) = w .passed k (omega arith)
+
   pub walk-ends : {now : List Slot} {i : ℕ} → Walked turn was now i → slots ≤ i → now ≡ slotsBy (λ k. turn k (slotAt was k))
   walk-ends {now} w l = slots-are now (λ k. turn k (slotAt was k)) (w .size) (λ k b. w .passed k (omega arith))

@@ -1,12 +1,9 @@
 // The slots with a block's in-flight patches committed: their slots free, and no patch after them.
 ghost use mathlib.Core.Path.{_≡_};
-ghost use Rattle.rules.specs.Complete.{completedSlots};
-ghost use Rattle.moves.specs.Steps.{landedSlot};
+ghost use Rattle.moves.specs.Steps.{landedSlot, landedSlots};
 use crate::slot::free;
 use crate::slot::with_befores;
 use rules::Slot;
-use slots::walks::set_of;
-use slots::words::Word;
 use slots::words::is_used;
 
 // A slot when the patches of `landed` commit: free where it is one of them. A patch that stays
@@ -24,10 +21,10 @@ fn landed_slot(s: Slot, landed: u64, commits: bool) -> Slot
     s
 }
 
-pub fn completed(slots: [Slot; 64], block: u32) -> [Slot; 64]
-    ensures { λ r. ⌜ r ≡ completedSlots slots block ⌝ }
+// All slots so; `landed` is the set of the block's patches in flight.
+pub fn completed(slots: [Slot; 64], landed: u64) -> [Slot; 64]
+    ensures { λ r. ⌜ r ≡ landedSlots slots landed ⌝ }
 {
-    let landed = set_of(slots, Word::InFlight, block);
     let mut next = slots;
     for i in 0..64 {
         let s = landed_slot(next[i], landed, masks::has(landed, i));

@@ -1,5 +1,6 @@
 // The slots with a set of patches in flight.
 ghost use mathlib.Core.Path.{_≡_};
+ghost use mathlib.Core.Bool.{true};
 ghost use Rattle.rules.specs.Write.{sentState, sentSlots};
 ghost use Rattle.moves.specs.Steps.{sentSlot};
 use crate::slot::with_state;
@@ -22,15 +23,12 @@ fn sent_state(u: State) -> State
     }
 }
 
-// A slot when the patches of a set are sent: in flight where it is one of them.
-fn sent_slot(s: Slot, goes: bool) -> Slot
-    ensures { λ r. ⌜ r ≡ sentSlot goes s ⌝ }
+// A slot whose patch is sent.
+fn sent_slot(s: Slot) -> Slot
+    ensures { λ r. ⌜ r ≡ sentSlot true s ⌝ }
 {
-    if goes {
-        let u = s.state;
-        return with_state(s, sent_state(u));
-    }
-    s
+    let u = s.state;
+    with_state(s, sent_state(u))
 }
 
 pub fn sent(slots: [Slot; 64], set: u64) -> [Slot; 64]
@@ -38,7 +36,10 @@ pub fn sent(slots: [Slot; 64], set: u64) -> [Slot; 64]
 {
     let mut next = slots;
     for i in 0..64 {
-        let s = sent_slot(next[i], masks::has(set, i));
+        if !masks::has(set, i) {
+            continue;
+        }
+        let s = sent_slot(next[i]);
         next[i] = s;
     }
     next

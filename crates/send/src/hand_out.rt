@@ -5,13 +5,12 @@ ghost use mathlib.Core.Path.{_≡_};
 ghost use Rattle.spans.specs.Spans.{splice, part};
 ghost use Rattle.rules.specs.Sizes.{roomStart};
 ghost use Rattle.rules.specs.Slots.{roomOf};
-ghost use Rattle.rules.specs.Table.{tableOf};
+ghost use Rattle.masks.specs.Sets.{setOf};
+ghost use Rattle.rules.specs.Table.{tableOf, waitsOn};
 ghost use Rattle.send.specs.Back.{Best, AllBack};
 ghost use Rattle.send.specs.Handed.{Handed};
 use rules::Slot;
 use slots::walks::numbers_of;
-use slots::walks::set_of;
-use slots::words::Word;
 use slots::words::room_of;
 
 // Slot i against the best so far (64: none yet): the higher number, if it is below `below`.
@@ -68,6 +67,8 @@ fn take_all_back(out: &mut [u8], undo: &[u8], slots: [Slot; 64], left: u64, top:
     }
 }
 
+// The block as it goes out when the patches of `set` go; `waiting` is the set of the block's waiting
+// patches.
 pub fn hand_out(
     out: &mut [u8],
     image: &[u8],
@@ -76,11 +77,12 @@ pub fn hand_out(
     first: u32,
     next: u32,
     slots: [Slot; 64],
+    waiting: u64,
     set: u64,
 )
-    ensures { λ _. ⌜ Handed (tableOf first next slots) block set (now (image .entry)) (now (undo .entry)) (now (out .entry)) (now (out .exit)) ⌝ }
+    ensures { λ _. ⌜ (waiting ≡ setOf (waitsOn slots block) → Handed (tableOf first next slots) block set (now (image .entry)) (now (undo .entry)) (now (out .entry)) (now (out .exit))) ⌝ }
 {
     spans::copy(out, 0, image, (block as usize) * 256, 256);
-    let left = masks::without(set_of(slots, Word::Waiting, block), set);
+    let left = masks::without(waiting, set);
     take_all_back(out, undo, slots, left, next);
 }

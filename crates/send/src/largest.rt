@@ -1,17 +1,17 @@
-// The search for the largest set that may go: it starts from all the block's waiting patches and
+// The search for the largest set that may go: it starts from all waiting patches of a block and
 // strikes, round by round, each patch with a before outside the set the round began with. A struck
 // hard patch strikes all, since what it wrote cannot be taken back.
-ghost use mathlib.Core.Path.{_≡_};
+ghost use Prim.Native.Nat.{ℕ};
 ghost use Rattle.rules.specs.Write.{Largest};
+ghost use Rattle.slots.specs.Words.{PatchesOn};
 use rules::Slot;
-use slots::walks::set_of;
-use slots::words::Word;
+use slots::patches::Patches;
 
-pub fn largest(slots: [Slot; 64], block: u32) -> u64
-    ensures { λ r. ⌜ Largest slots block r ⌝ }
+pub fn largest(slots: [Slot; 64], on: Patches) -> u64
+    ensures { λ r. ⌜ ((b : ℕ) → PatchesOn slots b on → Largest slots b r) ⌝ }
 {
-    let hard = set_of(slots, Word::Hard, block);
-    let mut began = set_of(slots, Word::Waiting, block);
+    let hard = on.hard;
+    let mut began = on.waiting;
     let set = loop {
         let mut kept = began;
         'walk: for i in 0..64 {

@@ -1,5 +1,6 @@
 -- What the proofs of the functions share.
 pub mod Gathered
+pub mod OnBlock
 pub mod Rooms
 pub mod SetSize
 pub mod Tested

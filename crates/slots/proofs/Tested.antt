@@ -1,19 +1,22 @@
--- A table is sound just where its header is within its bounds, each slot passes the tests of `is_sound` and all befores are slots in
+-- A table is sound just where its header is within its bounds, each slot passes the tests of `judge` and all befores are slots in
 -- use: the two directions from what the loop shows of each slot to Sound, which speaks of all. Assumes nothing.
 use Prim.Native.Nat.{ℕ, _^_, _<_}
-use mathlib.Core.Path.{_≡_, sym, ap, _∙_}
-use mathlib.Core.Bool.{true}
+use mathlib.Core.Path.{_≡_, sym, ap, _∙_, subst}
+use mathlib.Core.Bool.{true, false}
 use mathlib.Core.List.{List}
 use native.Mathlib.Decide.{decLt}
 use native.Mathlib.Omega.{arith}
+use Rattle.masks.specs.Decides.{Decides}
 use Rattle.masks.specs.Sets.{has, setOf, Sub}
-use Rattle.masks.proofs.Laws.{has-set, has-slot}
+use Rattle.masks.proofs.Decided.{clash}
+use Rattle.masks.proofs.Laws.{has-of, has-slot}
 use Rattle.rules.specs.declared.Slot.{Slot}
 use Rattle.rules.specs.Sizes.{slots}
 use Rattle.rules.specs.Slots.{isUsed}
 use Rattle.rules.specs.Table.{Sound, tableOf, used, slotAt, HasRoom}
 use Rattle.slots.specs.Tests.{roomIn, HeaderInRange, Alone}
-use Rattle.slots.specs.Words.{Carries, Gathered}
+use Rattle.slots.specs.declared.sound.Verdict.{Verdict}
+use Rattle.slots.specs.Words.{Carries, Gathered, IsVerdict}
 use Rattle.slots.proofs.Rooms.{room-soft}
 
 -- slot i has not the room of a slot below it
@@ -24,7 +27,7 @@ RoomApart ss i = (j r : ℕ) → j < i → HasRoom ss i r → HasRoom ss j r →
 abbrev pub NumberApart : List Slot → ℕ → Type 0
 NumberApart ss i = (j : ℕ) → j < i → Carries ss (slotAt ss i .number) j → ⊥
 
--- what is_sound tests of slot i, but for its befores
+-- what judge tests of slot i, but for its befores
 pub record Tested (first next : ℕ) (ss : List Slot) (i : ℕ) : Type 0 where
   pub alone : used ss i ≡ true → Alone first next i (slotAt ss i)
   pub number : used ss i ≡ true → NumberApart ss i
@@ -43,10 +46,6 @@ below-same f flip i j l m h = by (decLt i j) (decLt j i)
     by (yes a) d = absurd (f j i m a (flip i j h))
     by (no n) (yes b) = absurd (f i j l b h)
     by (no n) (no k) = omega arith
-
--- slot j is in the set just where it is in use
-has-used : {m : ℕ} (ss : List Slot) → m ≡ setOf (used ss) → (j : ℕ) → j < slots → has m j ≡ used ss j
-has-used ss e j l = ap (λ (x : ℕ). has x j) e ∙ has-set (used ss) j l
 
 module _ {first next : ℕ} {ss : List Slot} where
   pub sound-tested : Sound (tableOf first next ss) → (i : ℕ) → i < slots → Tested first next ss i
@@ -73,7 +72,7 @@ module _ {first next : ℕ} {ss : List Slot} where
     sound-sub s fits k h =
         let l = has-slot m k fits h in
         let z = befores .only k l h in
-        has-used ss is-used k l ∙ s .befores-used (z .0) k (z .1) l (z .2 .0) (z .2 .1)
+        has-of (used ss) n k is-used l ∙ s .befores-used (z .0) k (z .1) l (z .2 .0) (z .2 .1)
 
     pub tested-sound : HeaderInRange first next → ((i : ℕ) → i < slots → Tested first next ss i) → Sub m n → Sound (tableOf first next ss)
     tested-sound h t sub = record {
@@ -91,9 +90,17 @@ module _ {first next : ℕ} {ss : List Slot} where
       len-least = λ i l u. t i l .alone u .range .len-least;
       len-most = λ i l u. t i l .alone u .range .len-most;
       ends = λ i l u. t i l .alone u .range .ends;
-      befores-used = λ i j l k u h. sym (has-used ss is-used j k) ∙ sub j (befores .all i j l k (u, h));
+      befores-used = λ i j l k u h. sym (has-of (used ss) n j is-used k) ∙ sub j (befores .all i j l k (u, h));
       befores-other = λ i l u. t i l .alone u .befores-other;
       room-most = λ i r l e. t i l .alone (ap isUsed e) .room-most r (ap roomIn e);
       rooms-differ = λ i j r l k e f.
           below-same {P = λ i j. HasRoom ss i r × HasRoom ss j r} (λ i j l b h. t i l .room j r b (h .0) (h .1)) (λ i j h. (h .1, h .0)) i j l k (e, f);
     }
+
+-- the verdict on a table that is not sound
+pub not-sound : {first next : ℕ} {ss : List Slot} (v : Verdict) → v .sound ≡ false → (Sound (tableOf first next ss) → ⊥) → IsVerdict first next ss v
+not-sound {first} {next} {ss} v e n = record {
+  decides = subst (Decides (Sound (tableOf first next ss))) (sym e) n;
+  used-slots = λ t. absurd (clash t e);
+  taken-rooms = λ t. absurd (clash t e);
+}

@@ -1,27 +1,20 @@
--- The words that a walk over the slots asks, each one of the words of `rules`, and what a walk gathers.
+-- What the walks over the slots give, in the words of `rules`.
 use Prim.Native.Nat.{ℕ, _≤_, _<_}
 use mathlib.Core.Path.{_≡_}
-use mathlib.Core.Bool.{Bool, true, false, _&&_}
+use mathlib.Core.Bool.{Bool, true, false}
 use mathlib.Core.List.{List}
 use lib.Dec.{eqb}
 use lib.ListN.{length, getD}
-use Rattle.masks.specs.Sets.{has}
+use Rattle.masks.specs.Decides.{Decides}
+use Rattle.masks.specs.Sets.{has, setOf}
 use Rattle.rules.specs.declared.Hold.the-variants as hold
 use Rattle.rules.specs.declared.State.{State}
 use Rattle.rules.specs.declared.State.the-variants as state
 use Rattle.rules.specs.declared.Slot.{Slot}
 use Rattle.rules.specs.Sizes.{slots}
-use Rattle.rules.specs.Slots.{isUsed, isWaiting, isInFlight, isHard}
-use Rattle.rules.specs.Table.{used, slotAt, HasRoom}
-use Rattle.slots.specs.declared.words.Word.{Word}
-use Rattle.slots.specs.declared.words.Word.the-variants as word
-
--- at the slot i of ss these are used ss i, waitsOn ss b i, fliesOn ss b i and hardOn ss b i
-abbrev pub says : Word → ℕ → Slot → Bool
-says word.Used b s = isUsed (s .state)
-says word.Waiting b s = isWaiting (s .state) && eqb (s .block) b
-says word.InFlight b s = isInFlight (s .state) && eqb (s .block) b
-says word.Hard b s = isHard (s .state) && eqb (s .block) b
+use Rattle.rules.specs.Table.{Sound, tableOf, used, slotAt, waitsOn, hardOn, fliesOn, HasRoom}
+use Rattle.slots.specs.declared.patches.Patches.{Patches}
+use Rattle.slots.specs.declared.sound.Verdict.{Verdict}
 
 -- slot i is in use and has the number n
 abbrev pub Carries : List Slot → ℕ → ℕ → Type 0
@@ -32,10 +25,6 @@ pub record Found (ss : List Slot) (n r : ℕ) : Type 0 where
   pub most : r ≤ slots
   pub there : r < slots → Carries ss n r
   pub none-below : (i : ℕ) → i < r → Carries ss n i → ⊥
-
--- the word holds of some slot, on the block
-abbrev pub Some : List Slot → Word → ℕ → Type 0
-Some ss w b = (i : ℕ) × (i < slots) × (says w b (slotAt ss i) ≡ true)
 
 -- ns are the numbers of the 64 slots
 pub record NumbersOf (ss : List Slot) (ns : List ℕ) : Type 0 where
@@ -57,3 +46,15 @@ pub record Gathered (Gives : ℕ → ℕ → Type 0) (n m : ℕ) : Type 0 where
 -- m has just the rooms of the slots below n; no public promise cites this, only the walks that gather rooms
 abbrev pub RoomsBelow : List Slot → ℕ → ℕ → Type 0
 RoomsBelow ss = Gathered (HasRoom ss)
+
+-- p has the waiting patches of block b, those of them that are hard, and those in flight
+pub record PatchesOn (ss : List Slot) (b : ℕ) (p : Patches) : Type 0 where
+  pub waiting : p .waiting ≡ setOf (waitsOn ss b)
+  pub hard : p .hard ≡ setOf (hardOn ss b)
+  pub flying : p .in_flight ≡ setOf (fliesOn ss b)
+
+-- v says whether the table is sound and, where it is, which slots are in use and which rooms are taken
+pub record IsVerdict (first next : ℕ) (ss : List Slot) (v : Verdict) : Type 0 where
+  pub decides : Decides (Sound (tableOf first next ss)) (v .sound)
+  pub used-slots : v .sound ≡ true → v .used ≡ setOf (used ss)
+  pub taken-rooms : v .sound ≡ true → RoomsBelow ss slots (v .rooms)

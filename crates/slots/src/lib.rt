@@ -1,5 +1,6 @@
-// The 64 slots as the calls read them: words on one slot, sets and counts over all, and whether a
-// table is sound. Nothing here changes a slot.
+// The 64 slots as the calls read them: words on one slot, walks over all, the patches of a block,
+// and whether a table is sound. Nothing here changes a slot.
+pub mod patches;
 pub mod sound;
 pub mod walks;
 pub mod words;

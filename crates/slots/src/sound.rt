@@ -1,9 +1,11 @@
 // Whether a table is sound: each patch by itself, then beside those of the slots below it.
 ghost use mathlib.Core.Path.{_≡_};
+ghost use mathlib.Core.Bool.{false};
 ghost use lib.ListN.{length};
 ghost use Rattle.masks.specs.Decides.{Decides};
 ghost use Rattle.rules.specs.Table.{Sound, tableOf};
 ghost use Rattle.slots.specs.Tests.{roomIn, HeaderInRange, InRange, Alone, Marking};
+ghost use Rattle.slots.specs.Words.{IsVerdict};
 use crate::walks::find;
 use crate::words::is_used;
 use crate::words::room_set;
@@ -107,17 +109,34 @@ fn mark(marks: &mut [u64; 16], n: u32) -> bool
     masks::has(marked, digits)
 }
 
+// Whether the table is sound and, where it is, the slots in use and the rooms that are taken.
+pub struct Verdict {
+    pub sound: bool,
+    pub used: u64,
+    pub rooms: u64,
+}
+
+fn unsound() -> Verdict
+    ensures { λ r. ⌜ r .sound ≡ false ⌝ }
+{
+    Verdict {
+        sound: false,
+        used: 0,
+        rooms: 0,
+    }
+}
+
 // The first and the next number, then slot by slot. What is asked of a patch beside others is
 // gathered along the way, so that one walk does: the rooms, the slots in use, all befores, and the
 // marks of the numbers, of which only one that is there already asks for a search.
-pub fn is_sound(first: u32, next: u32, slots: [Slot; 64]) -> bool
-    ensures { λ r. ⌜ Decides (Sound (tableOf first next slots)) r ⌝ }
+pub fn judge(first: u32, next: u32, slots: [Slot; 64]) -> Verdict
+    ensures { λ r. ⌜ IsVerdict first next slots r ⌝ }
 {
     if !header_in_range(first, next) {
-        return false;
+        return unsound();
     }
     let mut marks: [u64; 16] = [0; 16];
-    let mut taken: u64 = 0;
+    let mut rooms: u64 = 0;
     let mut used: u64 = 0;
     let mut befores: u64 = 0;
     for i in 0..64 {
@@ -127,20 +146,31 @@ pub fn is_sound(first: u32, next: u32, slots: [Slot; 64]) -> bool
             continue;
         }
         if !sound_alone(s, i, first, next) {
-            return false;
+            return unsound();
         }
         if mark(&mut marks, s.number) {
             if find(slots, s.number) < i {
-                return false;
+                return unsound();
             }
         }
         let room = room_set(u);
-        if masks::meets(taken, room) {
-            return false;
+        if masks::meets(rooms, room) {
+            return unsound();
         }
-        taken = masks::joined(taken, room);
+        rooms = masks::joined(rooms, room);
         used = masks::with(used, i);
         befores = masks::joined(befores, s.befores);
     }
-    masks::within(befores, used)
+    Verdict {
+        sound: masks::within(befores, used),
+        used,
+        rooms,
+    }
+}
+
+pub fn is_sound(first: u32, next: u32, slots: [Slot; 64]) -> bool
+    ensures { λ r. ⌜ Decides (Sound (tableOf first next slots)) r ⌝ }
+{
+    let verdict = judge(first, next, slots);
+    verdict.sound
 }

@@ -1,19 +1,10 @@
-// What is asked of one slot. A word is a value, so that one walk over the slots serves them all.
+// What is asked of the state of one slot.
 ghost use mathlib.Core.Path.{_≡_};
 ghost use Rattle.masks.specs.Sets.{setOf};
 ghost use Rattle.rules.specs.Slots.{isUsed, isWaiting, isInFlight, isHard, roomOf};
-ghost use Rattle.slots.specs.Words.{says, hasRoom};
+ghost use Rattle.slots.specs.Words.{hasRoom};
 use rules::Hold;
-use rules::Slot;
 use rules::State;
-
-// A patch of any block; a waiting one of the block; one in flight; a waiting one that is hard.
-pub enum Word {
-    Used,
-    Waiting,
-    InFlight,
-    Hard,
-}
 
 pub fn is_used(u: State) -> bool
     ensures { λ r. ⌜ r ≡ isUsed u ⌝ }
@@ -55,19 +46,6 @@ pub fn is_hard(u: State) -> bool
             Hold::Soft(_) => false,
         },
         State::InFlight(_) => false,
-    }
-}
-
-// Whether the word holds of the slot, on the block.
-pub fn says(word: Word, block: u32, s: Slot) -> bool
-    ensures { λ r. ⌜ r ≡ says word block s ⌝ }
-{
-    let u = s.state;
-    match word {
-        Word::Used => is_used(u),
-        Word::Waiting => is_waiting(u) && s.block == block,
-        Word::InFlight => is_in_flight(u) && s.block == block,
-        Word::Hard => is_hard(u) && s.block == block,
     }
 }
 

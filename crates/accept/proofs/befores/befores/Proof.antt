@@ -1,15 +1,13 @@
 -- `accept::befores::befores` meets its contract. The loop's invariant: the set so far is that of the slots passed that the patch follows.
 -- Assumes nothing.
-use Prim.Native.Nat.{ℕ, _+_, _-_, _≤_, _<_}
+use Prim.Native.Nat.{ℕ, _-_, _≤_}
 use mathlib.Core.Path.{_≡_, sym, ap, _∙_}
-use mathlib.Core.Bool.{Bool, true, false, _||_}
+use mathlib.Core.Bool.{Bool}
 use mathlib.Core.List.{List}
-use mathlib.Core.Logic.{⊎-elim}
 use native.Mathlib.Omega.{arith}
 use denote.Ref.{now}
-use lib.Dec.{eqb}
-use Rattle.masks.specs.Sets.{has, setBelow, setOf}
-use Rattle.masks.proofs.Laws.{below-none, below-pass, below-with}
+use Rattle.masks.specs.Sets.{setBelow}
+use Rattle.masks.proofs.Laws.{below-none, with-if-below}
 use Rattle.rules.specs.declared.Slot.{Slot}
 use Rattle.rules.specs.Table.{slotAt}
 use Rattle.rules.specs.Create.{Change, befores}
@@ -17,14 +15,6 @@ use Rattle.accept.specs.Tests.{follows}
 use borrow.Author.Needs.{needs}
 use Rattle.accept.proofs.befores.befores.Statement.{statement}
 use Rattle.accept.proofs.befores.befores.Tie as tie
-
--- the set m of the slots below i that pass, and what a turn makes of it by the answer r for slot i
-one-more : (p : ℕ → Bool) (i : ℕ) {m n : ℕ} {r : Bool} → m ≡ setBelow p i → i < 64 → r ≡ p i → r ≡ true
-    → n ≡ setOf (λ k. has m k || eqb k i) → n ≡ setBelow p (i + 1)
-one-more p i e l said passed with = with ∙ ap (λ (x : ℕ). setOf (λ k. has x k || eqb k i)) e ∙ below-with p i l (sym said ∙ passed)
-
-none-more : (p : ℕ → Bool) (i : ℕ) {m n : ℕ} {r : Bool} → m ≡ setBelow p i → r ≡ p i → r ≡ false → n ≡ m → n ≡ setBelow p (i + 1)
-none-more p i e said failed same = same ∙ e ∙ below-pass p i (sym said ∙ failed)
 
 -- the test that the walk asks of slot k
 abbrev passes : List Slot → Change → ℕ → Bool
@@ -48,8 +38,8 @@ array-copy-out-follows c = search needs
 follows-requires : tie.Need-follows-requires Inv-loop μ-loop
 follows-requires c κs = search needs
 
-with-requires : tie.Need-with-requires Inv-loop μ-loop
-with-requires c κs = search needs
+with-if-requires : tie.Need-with-if-requires Inv-loop μ-loop
+with-if-requires c κs = search needs
 
 add-i : tie.Need-add-i Inv-loop μ-loop
 add-i c = search needs
@@ -62,13 +52,7 @@ loop-again c =
     let at = c .before .before .before .before in
     let a = at .before .before .before .args in
     let p = passes (a .t1) (record { block = a .block; offset = a .offset; bytes = now (a .bytes); named = now (a .numbers) }) in
-    let i = at .loop .i in (
-      omega arith,
-      ⊎-elim
-          (λ w. one-more p i (at .loop .inv .1) (c .before .before .before .loop-test .taken) (c .before .follows .ensures) (w .0 .taken) (w .2 ∙ w .1 .ensures))
-          (λ w. none-more p i (at .loop .inv .1) (c .before .follows .ensures) (w .0 .left) (w .1))
-          (c .if1 .came),
-    )
+    (omega arith, c .with-if .ensures ∙ with-if-below p (at .loop .i) _ _ (at .loop .inv .1) (c .before .before .before .loop-test .taken) (c .before .follows .ensures))
 
 returns : tie.Need-returns Inv-loop μ-loop
 unfolding befores
@@ -86,7 +70,7 @@ befores-spec =
     mul-follows
     array-copy-out-follows
     follows-requires
-    with-requires
+    with-if-requires
     add-i
     loop-less
     loop-again

@@ -17,8 +17,8 @@ Inv-loop block slots waiting k₀ k = (k ≤ 64) × ((j : ℕ) → j < k → Hol
 abbrev μ-loop : tie.MeasureT-loop
 μ-loop block slots waiting k₀ k = 64 - k
 
-set-of-requires : tie.Need-set-of-requires Inv-loop μ-loop
-set-of-requires c κs = search needs
+patches-on-requires : tie.Need-patches-on-requires Inv-loop μ-loop
+patches-on-requires c κs = search needs
 
 loop-holds : tie.Need-loop-holds Inv-loop μ-loop
 loop-holds c = (omega arith, below-none _)
@@ -36,7 +36,7 @@ returns : tie.Need-returns Inv-loop μ-loop
 returns c =
     let at = c .before .before .before in
     let a = at .before .before .before .args in
-    λ hard. hard-holds-none (a .t1) (a .block) (at .before .before .set-of .ensures) hard _ (at .loop-test .taken)
+    λ hard. hard-holds-none (a .t1) (a .block) (at .before .before .patches-on .ensures .waiting) hard _ (at .loop-test .taken)
     (yes-of (c .before .holds-back .result) (c .before .holds-back .ensures) (c .if1 .taken))
 
 add-k : tie.Need-add-k Inv-loop μ-loop
@@ -54,7 +54,7 @@ loop-again c = (
 returns-2 : tie.Need-returns-2 Inv-loop μ-loop
 returns-2 c =
     let at = c .before .before in
-    none-holds-hard (at .before .args .t1) (at .before .args .block) (at .set-of .ensures) (λ k l. c .before .loop .inv .1 k (omega arith))
+    none-holds-hard (at .before .args .t1) (at .before .args .block) (at .patches-on .ensures .waiting) (λ k l. c .before .loop .inv .1 k (omega arith))
 
 pub would-be-hard-spec : {M : Type 1} → statement M
 would-be-hard-spec =
@@ -62,7 +62,7 @@ would-be-hard-spec =
     (tie.spec
     Inv-loop
     μ-loop
-    set-of-requires
+    patches-on-requires
     loop-holds
     mul-holds-back
     array-copy-out-holds-back

@@ -5,6 +5,7 @@ use mathlib.Core.List.{List}
 use native.Mathlib.Omega.{arith}
 use borrow.Author.Needs.{needs}
 use Rattle.masks.proofs.Decided.{yes-not, no-not}
+use Rattle.slots.proofs.OnBlock.{some-flies, none-flies}
 use Rattle.rules.specs.declared.Answer.the-variants as answer
 use Rattle.rules.specs.declared.Slot.{Slot}
 use Rattle.rules.specs.Sizes.{blocks}
@@ -12,6 +13,7 @@ use Rattle.rules.specs.Table as rules
 use Rattle.rules.specs.Table.{Sound, withSlots}
 use Rattle.rules.specs.Complete.{completed}
 use Rattle.rules.specs.Calls.{Completes}
+use Rattle.moves.proofs.Landed.{landed-completed}
 use Rattle.cache.specs.Seen.{seen}
 use Rattle.cache.proofs.Sent.{complete-unsound, complete-no-block, complete-none, complete-granted}
 use Rattle.cache.proofs.Table.complete.Statement.{statement}
@@ -34,8 +36,8 @@ returns-2 c =
     let a = c .before .before .before .before .args in
     complete-no-block (seen (a .self)) (a .block) (sound-here (c .before)) (c .if2 .taken)
 
-any-requires : tie.Need-any-requires
-any-requires c κs = search needs
+patches-on-requires : tie.Need-patches-on-requires
+patches-on-requires c κs = search needs
 
 -- where the block has been found to be one
 block-here : (c : tie.Else2) → c .before .before .before .before .args .block < blocks
@@ -45,7 +47,8 @@ returns-3 : tie.Need-returns-3
 returns-3 c =
     let e = c .before .before in
     let a = e .before .before .before .before .args in
-    complete-none (seen (a .self)) (a .block) (sound-here (e .before)) (block-here e) (no-not (c .before .any .result) (c .before .any .ensures) (c .if3 .taken))
+    complete-none (seen (a .self)) (a .block) (sound-here (e .before)) (block-here e)
+    (none-flies (c .before .patches-on .ensures) (c .if3 .taken))
 
 completed-requires : tie.Need-completed-requires
 completed-requires c κs = search needs
@@ -59,9 +62,10 @@ returns-4 c =
     let f = c .before .before in
     let e = f .before .before in
     let a = e .before .before .before .before .args in
+    let on = f .before .patches-on .ensures in
     subst (λ (t : rules.Table). Completes (seen (a .self)) (a .block) (record { answer = answer.Granted; table = t }))
-    (sym (c .with-slots .ensures ∙ ap (λ (ss : List Slot). withSlots ss (seen (a .self))) (c .before .completed .ensures)))
-    (complete-granted (seen (a .self)) (a .block) (sound-here (e .before)) (block-here e) (yes-not (f .before .any .result) (f .before .any .ensures) (f .if3 .left)))
+    (sym (c .with-slots .ensures ∙ ap (λ (ss : List Slot). withSlots ss (seen (a .self))) (c .before .completed .ensures ∙ landed-completed (a .self .slots) (a .block) (on .flying))))
+    (complete-granted (seen (a .self)) (a .block) (sound-here (e .before)) (block-here e) (some-flies on (f .if3 .left)))
 
 pub complete-spec : {M : Type 1} → statement M
 complete-spec =
@@ -70,7 +74,7 @@ complete-spec =
     is-sound-requires
     returns
     returns-2
-    any-requires
+    patches-on-requires
     returns-3
     completed-requires
     with-slots-requires

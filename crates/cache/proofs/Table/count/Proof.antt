@@ -1,11 +1,13 @@
 -- `Table::count` meets its contract. Assumes nothing.
-use mathlib.Core.Path.{sym, ap, subst}
+use mathlib.Core.Path.{sym, ap, subst, _∙_}
 use borrow.Author.Needs.{needs}
 use Prim.Native.Nat.{ℕ}
 use native.Mathlib.Omega.{arith}
+use lib.Count.{ones}
 use Rattle.masks.proofs.Decided.{yes-not, no-not}
 use Rattle.rules.specs.declared.CountAnswer.the-variants as count
-use Rattle.rules.specs.Table.{Sound}
+use Rattle.rules.specs.Table.{Sound, waitsOn}
+use Rattle.slots.proofs.SetSize.{ones-many}
 use Rattle.rules.specs.Calls.{Counts}
 use Rattle.cache.specs.Seen.{seen}
 use Rattle.cache.proofs.Looks.{count-unsound, count-no-block, count-granted}
@@ -29,14 +31,16 @@ returns-2 c =
     let a = c .before .before .before .before .args in
     count-no-block (seen (a .self)) (a .block) (sound-here (c .before)) (c .if2 .taken)
 
-count-of-requires : tie.Need-count-of-requires
-count-of-requires c κs = search needs
+patches-on-requires : tie.Need-patches-on-requires
+patches-on-requires c κs = search needs
 
 returns-3 : tie.Need-returns-3
 returns-3 c =
-    let a = c .before .before .before .before .before .args in
-    subst (λ (n : ℕ). Counts (seen (a .self)) (a .block) (count.Granted n)) (sym (c .count-of .ensures))
-    (count-granted (seen (a .self)) (a .block) (sound-here (c .before .before)) (omega (arith, c .before .if2 .left)))
+    let e = c .before .before in
+    let a = e .before .before .before .before .args in
+    subst (λ (n : ℕ). Counts (seen (a .self)) (a .block) (count.Granted n))
+    (sym (ap ones (c .before .patches-on .ensures .waiting) ∙ ones-many (waitsOn (a .self .slots) (a .block)) 64))
+    (count-granted (seen (a .self)) (a .block) (sound-here (e .before)) (omega (arith, e .if2 .left)))
 
 pub count-spec : {M : Type 1} → statement M
-count-spec = tie.close (tie.spec is-sound-requires returns returns-2 count-of-requires returns-3)
+count-spec = tie.close (tie.spec is-sound-requires returns returns-2 patches-on-requires returns-3)

@@ -1,24 +1,34 @@
 -- `Table::create` meets its contract: what is judged early, the lowest slot, hard or soft with its room, and the patch, the image and the undo area that are made. Assumes nothing.
 use Prim.Native.Nat.{ℕ, _+_, _*_, _<_}
 use mathlib.Core.Path.{_≡_, sym, ap, subst, _∙_}
+use mathlib.Core.Bool.{false}
 use mathlib.Core.List.{List}
 use native.Mathlib.Omega.{arith}
 use borrow.Author.Needs.{needs}
 use denote.Ref.{now}
 use lib.ListN.{length}
+use Rattle.masks.specs.Sets.{has, setOf}
+use Rattle.masks.proofs.Decided.{said-yes}
+use Rattle.masks.proofs.Laws.{has-of}
 use Rattle.rules.specs.declared.Slot.{Slot}
 use Rattle.rules.specs.declared.Hold.{Hold}
+use Rattle.rules.specs.Table.{used}
 use Rattle.rules.specs.Create.{Change, Lowest, FreeSlot, HoldOf, accepted}
+use Rattle.slots.specs.Words.{RoomsBelow}
 use Rattle.accept.specs.declared.hold.Holding.{Holding}
-use Rattle.accept.specs.Asked.{Held}
+use Rattle.accept.specs.Asked.{LowestOr, Held}
+use Rattle.accept.proofs.LowestFound.{lowest-same}
 use Rattle.cache.specs.Seen.{seen}
 use Rattle.cache.specs.Judged.{CreateReady, withPatch, keptAt}
 use Rattle.cache.proofs.Accepted.{create-refused, create-no-slot, create-no-room, create-granted, image-made, undo-made}
 use Rattle.cache.proofs.Table.create.Statement.{statement}
 use Rattle.cache.proofs.Table.create.Tie as tie
 
+judge-requires : tie.Need-judge-requires
+judge-requires c κs = search needs
+
 create-refusal-requires : tie.Need-create-refusal-requires
-create-refusal-requires c κs = search needs
+create-refusal-requires c κs = c .before .before .judge .ensures .decides
 
 same-length : tie.Need-same-length
 same-length c = search needs
@@ -31,7 +41,7 @@ abbrev change : tie.Start → Change
 change s = record { block = s .args .block; offset = s .args .offset; bytes = now (s .args .bytes); named = now (s .args .named) }
 
 abbrev start : tie.After-create-refusal → tie.Start
-start c = c .before .before .before .before .before .before .before
+start c = c .before .before .before .before .before .before .before .before .before
 
 returns : tie.Need-returns
 returns c =
@@ -42,8 +52,27 @@ returns c =
 ready-here : (c : tie.Else1) → CreateReady (seen (start (c .before) .args .self)) (now (start (c .before) .args .image)) (now (start (c .before) .args .undo)) (change (start (c .before)))
 ready-here c = c .before .create-refusal .ensures .ready (c .if1 .left)
 
-lowest-slot-requires : tie.Need-lowest-slot-requires
-lowest-slot-requires c κs = search needs
+lowest-outside-requires : tie.Need-lowest-outside-requires
+lowest-outside-requires c κs = search needs
+
+-- a slot is free just where it is not among those in use
+free-slots : (ss : List Slot) {m r : ℕ} → m ≡ setOf (used ss) → LowestOr 64 (λ i. has m i ≡ false) r → LowestOr 64 (FreeSlot ss) r
+free-slots ss {m} is-used =
+    lowest-same (λ i l e. sym (has-of (used ss) m i is-used l) ∙ e) (λ i l e. has-of (used ss) m i is-used l ∙ e)
+
+-- what the verdict on the table says besides, where the table is sound
+judged-here : (c : tie.Else1)
+    → let ss = start (c .before) .args .self .slots in
+    let v = c .before .before .before .before .judge .result in
+    (v .used ≡ setOf (used ss)) × RoomsBelow ss 64 (v .rooms)
+judged-here c =
+    let v = c .before .before .before .before .judge in
+    let sound = said-yes (v .result .sound) (v .ensures .decides) (ready-here c .sound) in
+    (v .ensures .used-slots sound, v .ensures .taken-rooms sound)
+
+-- the lowest free slot, if there is one
+lowest-of : (c : tie.After-lowest-outside) → LowestOr 64 (FreeSlot (start (c .before .before) .args .self .slots)) (c .lowest-outside .result)
+lowest-of c = free-slots (start (c .before .before) .args .self .slots) (judged-here (c .before) .0) (c .lowest-outside .ensures)
 
 same-length-3 : tie.Need-same-length-3
 same-length-3 c = search needs
@@ -53,13 +82,13 @@ same-length-4 c = search needs
 
 returns-2 : tie.Need-returns-2
 returns-2 c =
-    let e = c .before .before .before in
+    let e = c .before .before in
     let s = start (e .before) in
-    create-no-slot (seen (s .args .self)) (now (s .args .image)) (now (s .args .undo)) (change s) (ready-here e) (c .before .lowest-slot .ensures .nowhere (c .if2 .taken))
+    create-no-slot (seen (s .args .self)) (now (s .args .image)) (now (s .args .undo)) (change s) (ready-here e) (lowest-of (c .before) .nowhere (c .if2 .taken))
 
 -- where a slot has been found free
-lowest-here : (c : tie.Else2) → Lowest 64 (FreeSlot (start (c .before .before .before .before) .args .self .slots)) (c .before .lowest-slot .result)
-lowest-here c = c .before .lowest-slot .ensures .there (omega (arith, c .if2 .left))
+lowest-here : (c : tie.Else2) → Lowest 64 (FreeSlot (start (c .before .before .before) .args .self .slots)) (c .before .lowest-outside .result)
+lowest-here c = lowest-of (c .before) .there (omega (arith, c .if2 .left))
 
 hold-for-requires : tie.Need-hold-for-requires
 hold-for-requires c κs = search needs
@@ -80,25 +109,28 @@ returns-3 : tie.Need-returns-3
 returns-3 c =
     let f = c .before .before in
     let g = f .before in
-    let e = g .before .before .before in
+    let e = g .before .before in
     let s = start (e .before) in
-    create-no-room (seen (s .args .self)) (now (s .args .image)) (now (s .args .undo)) (change s) (ready-here e) (g .before .lowest-slot .result) (lowest-here g)
-    (subst (λ (x : Holding). Held (s .args .self .slots) (s .args .block) x) (c .enum-told .given .1) (f .hold-for .ensures))
+    create-no-room (seen (s .args .self)) (now (s .args .image)) (now (s .args .undo)) (change s) (ready-here e) (g .before .lowest-outside .result) (lowest-here g)
+    (subst (λ (x : Holding). Held (s .args .self .slots) (s .args .block) x) (c .enum-told .given .1) (f .hold-for .ensures (judged-here e .1)))
 
 -- where the patch is known to be hard or soft
-held-here : (c : tie.After-hold) → HoldOf (start (c .before .before .before .before .before .before .before) .args .self .slots) (start (c .before .before .before .before .before .before .before) .args .block) (c .hold .given .0 .0)
+held-here : (c : tie.After-hold) → let a = start (c .before .before .before .before .before .before) .args in HoldOf (a .self .slots) (a .block) (c .hold .given .0 .0)
 held-here c =
-    let s = start (c .before .before .before .before .before .before .before) in
-    subst (λ (x : Holding). Held (s .args .self .slots) (s .args .block) x) (c .hold .given .1) (c .before .before .hold-for .ensures)
+    let e = c .before .before .before .before .before in
+    let s = start (e .before) in
+    subst (λ (x : Holding). Held (s .args .self .slots) (s .args .block) x) (c .hold .given .1) (c .before .before .hold-for .ensures (judged-here e .1))
 
 patch-requires : tie.Need-patch-requires
-patch-requires c κs = ready-here (c .before .before .before .before .before .before .before) .len-most
+patch-requires c κs = ready-here (c .before .before .before .before .before .before) .len-most
 
 mul-at : tie.Need-mul-at
-mul-at c = search needs
+mul-at c =
+    let r = ready-here (c .before .before .before .before .before .before .before) in record { fits = omega (arith, r .is-block) }
 
 add-at : tie.Need-add-at
-add-at c = search needs
+add-at c =
+    let r = ready-here (c .before .before .before .before .before .before .before) in record { fits = omega (arith, r .is-block, r .ends) }
 
 keep-requires : tie.Need-keep-requires
 keep-requires c κs = search needs
@@ -109,7 +141,7 @@ copy-requires c κs = search needs
 with-patch-requires : tie.Need-with-patch-requires
 with-patch-requires c κs =
     let p = c .before .before .before .before .before .before .before .before .before in
-    omega (arith, ready-here (p .before .before .before .before .before .before .before .before) .last)
+    omega (arith, ready-here (p .before .before .before .before .before .before .before) .last)
 
 same-length-7 : tie.Need-same-length-7
 same-length-7 c = search needs
@@ -125,10 +157,10 @@ returns-4 c =
     let p = k .before .before .before in
     let h = p .before .before in
     let g = h .before .before .before in
-    let e = g .before .before .before in
+    let e = g .before .before in
     let s = start (e .before) in
     let hold = h .hold .given .0 .0 in
-    let j = g .before .lowest-slot .result in
+    let j = g .before .lowest-outside .result in
     create-granted (seen (s .args .self)) (now (s .args .image)) (now (s .args .undo)) (change s) (ready-here e) j (lowest-here g) hold (held-here h)
     (seen (c .with-patch .result)) (i .copy .last .0) (k .keep .last .0)
     (c .with-patch .ensures ∙ ap (λ (x : Slot). withPatch (seen (s .args .self)) x j hold) (p .patch .ensures))
@@ -139,11 +171,12 @@ pub create-spec : {M : Type 1} → statement M
 create-spec =
     tie.close
     (tie.spec
+    judge-requires
     create-refusal-requires
     same-length
     same-length-2
     returns
-    lowest-slot-requires
+    lowest-outside-requires
     same-length-3
     same-length-4
     returns-2

@@ -16,29 +16,27 @@ returns c = create-wrong-size _ _ _ _ (inl (c .if1 .taken))
 returns-2 : tie.Need-returns-2
 returns-2 c = create-wrong-size _ _ _ _ (inr (c .if2 .taken))
 
-is-sound-requires : tie.Need-is-sound-requires
-is-sound-requires c κs = search needs
-
 returns-3 : tie.Need-returns-3
 returns-3 c =
-    let e2 = c .before .before .before in
-    create-unsound _ _ _ _ (e2 .before .if1 .left) (e2 .if2 .left) (no-not (c .before .is-sound .result) (c .before .is-sound .ensures) (c .if3 .taken))
+    let e2 = c .before in
+    let start = e2 .before .before .before .before .before .before in
+    create-unsound _ _ _ _ (e2 .before .if1 .left) (e2 .if2 .left) (no-not (start .args .sound) (start .pre) (c .if3 .taken))
 
 -- where the table has been found sound
-sound-here : (c : tie.Else3) → Sound (seen (c .before .before .before .before .before .before .before .before .before .args .self))
-sound-here c = yes-not (c .before .is-sound .result) (c .before .is-sound .ensures) (c .if3 .left)
+sound-here : (c : tie.Else3) → Sound (seen (c .before .before .before .before .before .before .before .args .self))
+sound-here c = let start = c .before .before .before .before .before .before .before in yes-not (start .args .sound) (start .pre) (c .if3 .left)
 
 returns-4 : tie.Need-returns-4
 returns-4 c =
     let e3 = c .before in
-    let e2 = e3 .before .before .before in
+    let e2 = e3 .before in
     create-no-block _ _ _ _ (e2 .before .if1 .left) (e2 .if2 .left) (sound-here e3) (c .if4 .taken)
 
 returns-5 : tie.Need-returns-5
 returns-5 c =
     let e4 = c .before in
     let e3 = e4 .before in
-    let e2 = e3 .before .before .before in
+    let e2 = e3 .before in
     create-wrong-length _ _ _ _ (e2 .before .if1 .left) (e2 .if2 .left) (sound-here e3) (omega (arith, e4 .if4 .left)) (inl (c .if5 .taken))
 
 returns-6 : tie.Need-returns-6
@@ -46,7 +44,7 @@ returns-6 c =
     let e5 = c .before in
     let e4 = e5 .before in
     let e3 = e4 .before in
-    let e2 = e3 .before .before .before in
+    let e2 = e3 .before in
     create-wrong-length _ _ _ _ (e2 .before .if1 .left) (e2 .if2 .left) (sound-here e3) (omega (arith, e4 .if4 .left)) (inr (c .if6 .taken))
 
 sub-if7 : tie.Need-sub-if7
@@ -58,19 +56,19 @@ returns-7 c =
     let e5 = e6 .before in
     let e4 = e5 .before in
     let e3 = e4 .before in
-    let e2 = e3 .before .before .before in
+    let e2 = e3 .before in
     create-past-end _ _ _ _ (e2 .before .if1 .left) (e2 .if2 .left) (sound-here e3) (omega (arith, e4 .if4 .left)) (e5 .if5 .left) (e6 .if6 .left)
     (omega (arith, c .if7 .taken, e6 .if6 .left))
 
 -- where none of 1 to 5 holds
-past-here : (c : tie.Else7) → let a = c .before .before .before .before .before .before .before .before .before .before .before .before .before .args in
+past-here : (c : tie.Else7) → let a = c .before .before .before .before .before .before .before .before .before .before .before .args in
     Past5 (seen (a .self)) (now (a .image)) (now (a .undo)) (record { block = a .block; offset = a .offset; bytes = now (a .bytes); named = now (a .named) })
 past-here c =
     let e6 = c .before in
     let e5 = e6 .before in
     let e4 = e5 .before in
     let e3 = e4 .before in
-    let e2 = e3 .before .before .before in
+    let e2 = e3 .before in
     record {
       image-whole = e2 .before .if1 .left;
       undo-whole = e2 .if2 .left;
@@ -110,7 +108,6 @@ create-refusal-spec =
     (tie.spec
     returns
     returns-2
-    is-sound-requires
     returns-3
     returns-4
     returns-5

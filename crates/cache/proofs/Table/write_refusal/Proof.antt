@@ -5,9 +5,11 @@ use mathlib.Core.Path.{refl}
 use native.Mathlib.Omega.{arith}
 use borrow.Author.Needs.{needs}
 use lib.ListN.{length}
-use Rattle.masks.proofs.Decided.{yes-of, no-of, yes-not, no-not}
+use Rattle.masks.proofs.Decided.{yes-not, no-not}
 use Rattle.rules.specs.Sizes.{blocks}
 use Rattle.rules.specs.Table.{Sound}
+use Rattle.slots.specs.Words.{PatchesOn}
+use Rattle.slots.proofs.OnBlock.{some-flies, none-flies, some-waits, none-waits}
 use Rattle.cache.specs.Seen.{seen}
 use Rattle.cache.proofs.Sent.{write-wrong-size, write-unsound, write-no-block, write-flies, write-none-waits}
 use Rattle.cache.proofs.Table.write_refusal.Statement.{statement}
@@ -39,17 +41,17 @@ returns-5 c =
     let e = c .before .before .before .before in
     write-no-block _ _ _ _ _ (e .before .before .if1 .left) (e .before .if2 .left) (e .if3 .left) (sound-here (c .before)) (c .if5 .taken)
 
-any-requires : tie.Need-any-requires
-any-requires c κs = search needs
+-- the sets of the block, as they were handed over
+on-here : (c : tie.Else5)
+    → let a = c .before .before .before .before .before .before .before .before .before .before .args in PatchesOn (a .self .slots) (a .block) (a .on)
+on-here c = c .before .before .before .before .before .before .before .before .before .before .pre
 
 returns-6 : tie.Need-returns-6
 returns-6 c =
     let f = c .before .before in
     let e = f .before .before .before .before in
-    write-flies _ _ _ _ _ (e .before .before .if1 .left) (e .before .if2 .left) (e .if3 .left) (sound-here (f .before)) (omega (arith, f .if5 .left)) (yes-of (c .before .any .result) (c .before .any .ensures) (c .if6 .taken))
-
-any-requires-2 : tie.Need-any-requires-2
-any-requires-2 c κs = search needs
+    write-flies _ _ _ _ _ (e .before .before .if1 .left) (e .before .if2 .left) (e .if3 .left) (sound-here (f .before)) (omega (arith, f .if5 .left))
+    (some-flies (on-here f) (c .if6 .taken))
 
 returns-7 : tie.Need-returns-7
 returns-7 c =
@@ -57,8 +59,7 @@ returns-7 c =
     let f = g .before .before in
     let e = f .before .before .before .before in
     write-none-waits _ _ _ _ _ (e .before .before .if1 .left) (e .before .if2 .left) (e .if3 .left) (sound-here (f .before)) (omega (arith, f .if5 .left))
-    (no-of (g .before .any .result) (g .before .any .ensures) (g .if6 .left))
-    (no-not (c .before .any2 .result) (c .before .any2 .ensures) (c .if7 .taken))
+    (none-flies (on-here f) (g .if6 .left)) (none-waits (on-here f) (c .if7 .taken))
 
 returns-8 : tie.Need-returns-8
 returns-8 c =
@@ -73,8 +74,8 @@ returns-8 c =
         block-whole = e .if3 .left;
         sound = sound-here (f .before);
         is-block = omega (arith, f .if5 .left);
-        none-flies = no-of (g .before .any .result) (g .before .any .ensures) (g .if6 .left);
-        some-waits = yes-not (c .before .any2 .result) (c .before .any2 .ensures) (c .if7 .left);
+        none-flies = none-flies (on-here f) (g .if6 .left);
+        some-waits = some-waits (on-here f) (c .if7 .left);
       };
     }
 
@@ -88,8 +89,6 @@ write-refusal-spec =
     is-sound-requires
     returns-4
     returns-5
-    any-requires
     returns-6
-    any-requires-2
     returns-7
     returns-8)

@@ -1,46 +1,24 @@
--- `moves::complete::completed` meets its contract: a walk whose turn commits the slots of the block's set in flight. Assumes nothing.
-use Prim.Native.Nat.{ℕ, _≤_, _<_, _-_}
-use mathlib.Core.Path.{_≡_, ap, ap₂, _∙_}
-use mathlib.Core.Bool.{Bool, cond, _&&_, not}
-use mathlib.Core.List.{List}
+-- `moves::complete::completed` meets its contract: a walk whose turn commits the slots of the set. Assumes nothing.
+use Prim.Native.Nat.{_≤_, _-_}
+use mathlib.Core.Path.{ap, _∙_}
+use mathlib.Core.Bool.{Bool}
 use native.Mathlib.Omega.{arith}
 use borrow.Author.Needs.{needs}
-use Rattle.masks.specs.Sets.{has, setOf}
-use Rattle.masks.proofs.Laws.{has-set, set-ext}
-use Rattle.rules.specs.declared.Slot.{Slot}
-use Rattle.rules.specs.Sizes.{slots}
-use Rattle.rules.specs.Slots.{isUsed, freeSlot, withBefores}
-use Rattle.rules.specs.Table.{slotAt, slotsBy, fliesOn}
-use Rattle.rules.specs.Complete.{completedSlots}
-use Rattle.rules.proofs.SlotsBy.{slots-ext}
+use Rattle.masks.specs.Sets.{has}
+use Rattle.rules.specs.Table.{slotAt}
 use Rattle.moves.specs.Steps.{landedSlot}
 use Rattle.moves.proofs.Walked.{Walked, walk-starts, walk-goes-on, walk-ends}
 use Rattle.moves.proofs.complete.completed.Statement.{statement}
 use Rattle.moves.proofs.complete.completed.Tie as tie
 
--- the slots that land are those of the block in flight, so what a turn makes of a slot is what Complete says
-landed-completed : (ss : List Slot) (b : ℕ) {m : ℕ} → m ≡ setOf (fliesOn ss b)
-    → slotsBy (λ k. landedSlot m (has m k) (slotAt ss k)) ≡ completedSlots ss b
-unfolding completedSlots
-landed-completed ss b {m} e =
-    slots-ext _ _ (λ i l. let s = slotAt ss i in
-    ap₂ (λ (commits : Bool) (befores : ℕ). cond commits freeSlot (cond (isUsed (s .state)) (withBefores befores s) s))
-    (lands i l) (set-ext _ _ (λ k h. ap (λ (gone : Bool). has (s .befores) k && not gone) (lands k h))))
-  where
-    lands : (k : ℕ) → k < slots → has m k ≡ fliesOn ss b k
-    lands k l = ap (λ (x : ℕ). has x k) e ∙ has-set (fliesOn ss b) k l
-
 abbrev Inv-loop : tie.InvT-loop
-Inv-loop block landed next₀ i₀ next i = (i ≤ 64) × Walked (λ k. landedSlot landed (has landed k)) next₀ next i
+Inv-loop landed next₀ i₀ next i = (i ≤ 64) × Walked (λ k. landedSlot landed (has landed k)) next₀ next i
 
 abbrev μ-loop : tie.MeasureT-loop
-μ-loop block landed next₀ i₀ next i = 64 - i
-
-set-of-requires : tie.Need-set-of-requires Inv-loop μ-loop
-set-of-requires c κs = search needs
+μ-loop landed next₀ i₀ next i = 64 - i
 
 loop-holds : tie.Need-loop-holds Inv-loop μ-loop
-loop-holds c = (omega arith, walk-starts (c .before .good .0 .1 .0 .1))
+loop-holds c = (omega arith, walk-starts (c .good .0 .1 .0 .1))
 
 mul-landed-slot : tie.Need-mul-landed-slot Inv-loop μ-loop
 mul-landed-slot c = search needs
@@ -70,10 +48,10 @@ loop-again : tie.Need-loop-again Inv-loop μ-loop
 loop-again c =
     let at = c .before .before .before .before in
     let s = slotAt (at .loop .next) (at .loop .i) in
-    (omega arith, walk-goes-on (at .loop .inv .1) (c .before .before .before .loop-test .taken) (c .landed-slot .ensures ∙ ap (λ (commits : Bool). landedSlot (at .before .set-of .result) commits s) (c .before .has .ensures)))
+    (omega arith, walk-goes-on (at .loop .inv .1) (c .before .before .before .loop-test .taken) (c .landed-slot .ensures ∙ ap (λ (commits : Bool). landedSlot (at .before .args .landed) commits s) (c .before .has .ensures)))
 
 returns : tie.Need-returns Inv-loop μ-loop
-returns c = walk-ends (c .before .loop .inv .1) (c .loop-test .left) ∙ landed-completed _ _ (c .before .before .set-of .ensures)
+returns c = walk-ends (c .before .loop .inv .1) (c .loop-test .left)
 
 pub completed-spec : {M : Type 1} → statement M
 completed-spec =
@@ -81,7 +59,6 @@ completed-spec =
     (tie.spec
     Inv-loop
     μ-loop
-    set-of-requires
     loop-holds
     mul-landed-slot
     array-copy-out-landed-slot

@@ -1,14 +1,15 @@
 -- `moves::write::sent` meets its contract: a walk whose turn sends the slot where the set has it. Assumes nothing.
 use Prim.Native.Nat.{_≤_, _-_}
-use mathlib.Core.Path.{ap, _∙_}
+use mathlib.Core.Path.{sym, ap, _∙_}
 use mathlib.Core.Bool.{Bool}
 use native.Mathlib.Omega.{arith}
 use borrow.Author.Needs.{needs}
+use borrow.Author.Tests.{not-true, not-false}
 use Rattle.masks.specs.Sets as Sets
 use Rattle.rules.specs.Table.{slotAt}
 use Rattle.rules.specs.Write.{sentSlots}
 use Rattle.moves.specs.Steps.{sentSlot}
-use Rattle.moves.proofs.Walked.{Walked, walk-starts, walk-goes-on, walk-ends}
+use Rattle.moves.proofs.Walked.{Walked, walk-starts, walk-goes-on, walk-passes, walk-ends}
 use Rattle.moves.proofs.write.sent.Statement.{statement}
 use Rattle.moves.proofs.write.sent.Tie as tie
 
@@ -21,14 +22,26 @@ abbrev μ-loop : tie.MeasureT-loop
 loop-holds : tie.Need-loop-holds Inv-loop μ-loop
 loop-holds c = (omega arith, walk-starts (c .good .0 .1 .0 .1))
 
+has-requires : tie.Need-has-requires Inv-loop μ-loop
+has-requires c κs = search needs
+
+add-i : tie.Need-add-i Inv-loop μ-loop
+add-i c = search needs
+
+loop-less : tie.Need-loop-less Inv-loop μ-loop
+loop-less c = search needs
+
+loop-again : tie.Need-loop-again Inv-loop μ-loop
+loop-again c =
+    let at = c .before .before .before in
+    let s = slotAt (at .loop .next) (at .loop .i) in
+    (omega arith, walk-passes (at .loop .inv .1) (ap (λ (goes : Bool). sentSlot goes s) (sym (c .before .has .ensures) ∙ not-true _ (c .if1 .taken))))
+
 mul-sent-slot : tie.Need-mul-sent-slot Inv-loop μ-loop
 mul-sent-slot c = search needs
 
 array-copy-out-sent-slot : tie.Need-array-copy-out-sent-slot Inv-loop μ-loop
 array-copy-out-sent-slot c = search needs
-
-has-requires : tie.Need-has-requires Inv-loop μ-loop
-has-requires c κs = search needs
 
 sent-slot-requires : tie.Need-sent-slot-requires Inv-loop μ-loop
 sent-slot-requires c κs = search needs
@@ -39,17 +52,21 @@ mul-next c = search needs
 array-set-from-next : tie.Need-array-set-from-next Inv-loop μ-loop
 array-set-from-next c = search needs
 
-add-i : tie.Need-add-i Inv-loop μ-loop
-add-i c = search needs
+add-i-2 : tie.Need-add-i-2 Inv-loop μ-loop
+add-i-2 c = search needs
 
-loop-less : tie.Need-loop-less Inv-loop μ-loop
-loop-less c = search needs
+loop-less-2 : tie.Need-loop-less-2 Inv-loop μ-loop
+loop-less-2 c = search needs
 
-loop-again : tie.Need-loop-again Inv-loop μ-loop
-loop-again c =
-    let at = c .before .before .before .before in
-    let s = slotAt (at .loop .next) (at .loop .i) in
-    (omega arith, walk-goes-on (at .loop .inv .1) (c .before .before .before .loop-test .taken) (c .sent-slot .ensures ∙ ap (λ (goes : Bool). sentSlot goes s) (c .before .has .ensures)))
+loop-again-2 : tie.Need-loop-again-2 Inv-loop μ-loop
+loop-again-2 c =
+    let test = c .before .before in
+    let at = test .before .before .before in
+    let s = slotAt (at .loop .next) (at .loop .i) in (
+      omega arith,
+      walk-goes-on (at .loop .inv .1) (test .before .before .loop-test .taken)
+          (c .sent-slot .ensures ∙ ap (λ (goes : Bool). sentSlot goes s) (sym (sym (test .before .has .ensures) ∙ not-false _ (test .if1 .left)))),
+    )
 
 returns : tie.Need-returns Inv-loop μ-loop
 unfolding sentSlots
@@ -62,13 +79,16 @@ sent-spec =
     Inv-loop
     μ-loop
     loop-holds
-    mul-sent-slot
-    array-copy-out-sent-slot
     has-requires
-    sent-slot-requires
-    mul-next
-    array-set-from-next
     add-i
     loop-less
     loop-again
+    mul-sent-slot
+    array-copy-out-sent-slot
+    sent-slot-requires
+    mul-next
+    array-set-from-next
+    add-i-2
+    loop-less-2
+    loop-again-2
     returns)

@@ -1,4 +1,4 @@
--- `moves::write::sent_slot` meets its contract: a slot that goes gets the sent state, any other stays. Assumes nothing.
+-- `moves::write::sent_slot` meets its contract. Assumes nothing.
 use mathlib.Core.Path.{ap, _∙_}
 use Rattle.rules.specs.declared.State.{State}
 use Rattle.rules.specs.Slots.{withState}
@@ -13,12 +13,7 @@ with-state-requires : tie.Need-with-state-requires
 with-state-requires c κs = search needs
 
 returns : tie.Need-returns
-returns c =
-    let s = c .before .before .before .args .s in
-    rw (c .before .before .if1 .taken) (c .with-state .ensures ∙ ap (λ (u : State). withState u s) (c .before .sent-state .ensures))
-
-returns-2 : tie.Need-returns-2
-returns-2 c = search needs
+returns c = c .with-state .ensures ∙ ap (λ (u : State). withState u (c .before .before .args .s)) (c .before .sent-state .ensures)
 
 pub sent-slot-spec : {M : Type 1} → statement M
-sent-slot-spec = tie.close (tie.spec sent-state-requires with-state-requires returns returns-2)
+sent-slot-spec = tie.close (tie.spec sent-state-requires with-state-requires returns)

@@ -10,6 +10,7 @@ use borrow.Author.Needs.{needs}
 use lib.ListN.{length}
 use Rattle.masks.specs.Sets.{has, setOf}
 use Rattle.masks.proofs.Decided.{and-true}
+use Rattle.masks.proofs.Laws.{has-of}
 use Rattle.spans.specs.Spans.{splice, part}
 use Rattle.spans.proofs.Laws.{splice-whole, length-part}
 use Rattle.rules.specs.declared.Slot.{Slot}
@@ -18,7 +19,7 @@ use Rattle.rules.specs.Write.{leftBehind, backDown, handedOut}
 use Rattle.send.specs.Back.{Numbered, AllBack}
 use Rattle.send.specs.Handed.{Handed}
 use Rattle.rules.proofs.TakenBack.{down-ext}
-use Rattle.send.proofs.Words.{has-of, waits-on-used}
+use Rattle.send.proofs.Words.{waits-on-used}
 use Rattle.send.proofs.hand_out.hand_out.Statement.{statement}
 use Rattle.send.proofs.hand_out.hand_out.Tie as tie
 
@@ -55,9 +56,6 @@ mul-copy c = search needs
 copy-requires : tie.Need-copy-requires
 copy-requires c κs = search needs
 
-set-of-requires : tie.Need-set-of-requires
-set-of-requires c κs = search needs
-
 without-requires : tie.Need-without-requires
 without-requires c κs = search needs
 
@@ -68,11 +66,11 @@ same-length : tie.Need-same-length
 same-length c = search needs
 
 returns : tie.Need-returns
-returns c =
+returns c = λ is-waiting.
     let at = c .before .before .before .before in
-    let copied = at .before .before .before .before in
+    let copied = at .before .before .before in
     let a = copied .before .before .before .before .before .args in
-    handed (a .first) (a .next) (a .block) (a .set) (a .slots) (at .before .set-of .result) (at .without .result) (at .before .set-of .ensures)
+    handed (a .first) (a .next) (a .block) (a .set) (a .slots) (a .waiting) (at .without .result) is-waiting
     (at .without .ensures) (now (a .image)) (now (a .undo)) (now (a .out)) (copied .copy .last .0) (c .before .before .take-all-back .last .0)
     (copied .copy .ensures) (c .before .before .take-all-back .ensures)
 
@@ -82,7 +80,6 @@ hand-out-spec =
     (tie.spec
     mul-copy
     copy-requires
-    set-of-requires
     without-requires
     take-all-back-requires
     same-length

@@ -1,14 +1,15 @@
--- `send::largest::largest` meets its contract. The invariant of the rounds: the set that a round begins with holds every set that may go.
+-- `send::largest::largest` meets its contract. The invariant of the rounds: the set that a round begins with holds every set that may go, if
+-- the two sets that the search is given are a block's.
 -- That of the walk in a round: of the slots passed, those that the round keeps. A round that strikes makes the set smaller. Assumes nothing.
-use Prim.Native.Nat.{ℕ, _+_, _-_, _≤_}
-use mathlib.Core.Path.{sym, _∙_, subst}
+use Prim.Native.Nat.{ℕ, _+_, _-_, _^_, _≤_, _<_}
+use mathlib.Core.Path.{_≡_, sym, _∙_, subst}
 use mathlib.Core.Logic.{⊎-elim}
 use native.Mathlib.Omega.{arith}
 use borrow.Author.Needs.{needs}
-use Rattle.masks.specs.Sets.{has, howMany}
+use Rattle.masks.specs.Sets.{has, howMany, setOf}
 use Rattle.masks.proofs.Decided.{clash, yes-not, no-not}
-use Rattle.masks.proofs.Laws.{size-less}
-use Rattle.rules.specs.Table.{hardOn}
+use Rattle.masks.proofs.Laws.{size-less, has-of}
+use Rattle.rules.specs.Table.{waitsOn, hardOn}
 use Rattle.rules.specs.Write.{Largest}
 use Rattle.send.proofs.Rounds.{
   Kept,
@@ -24,34 +25,26 @@ use Rattle.send.proofs.Rounds.{
   walk-ends,
   hard-strikes-all,
 }
-use Rattle.send.proofs.Words.{has-of}
 use Rattle.send.proofs.largest.largest.Statement.{statement}
 use Rattle.send.proofs.largest.largest.Tie as tie
 
 abbrev Inv-walk : tie.InvT-walk
-Inv-walk block slots hard began kept₀ i₀ kept i = (i ≤ 64) × Walked slots block began i kept
+Inv-walk slots hard began kept₀ i₀ kept i = (i ≤ 64) × Walked slots (has hard) began i kept
 
 abbrev μ-walk : tie.MeasureT-walk
-μ-walk block slots hard began kept₀ i₀ kept i = 64 - i
+μ-walk slots hard began kept₀ i₀ kept i = 64 - i
 
 abbrev Inv-loop : tie.InvT-loop
-Inv-loop block slots hard began₀ began = Kept slots block began
+Inv-loop slots hard began₀ began = (began < 2 ^ 64) × ((b : ℕ) → began₀ ≡ setOf (waitsOn slots b) → hard ≡ setOf (hardOn slots b) → Kept slots b began)
 
 abbrev μ-loop : tie.MeasureT-loop
-μ-loop block slots hard began₀ began = howMany (has began) 64
-
-set-of-requires : tie.Need-set-of-requires Inv-walk μ-walk Inv-loop μ-loop
-set-of-requires c κs = search needs
-
-set-of-requires-2 : tie.Need-set-of-requires-2 Inv-walk μ-walk Inv-loop μ-loop
-set-of-requires-2 c κs = search needs
+μ-loop slots hard began₀ began = howMany (has began) 64
 
 loop-holds : tie.Need-loop-holds Inv-walk μ-walk Inv-loop μ-loop
-loop-holds c =
-    let a = c .before .before .args in subst (Kept (a .t1) (a .block)) (sym (c .set-of2 .ensures)) (all-waiting-kept (a .t1) (a .block))
+loop-holds c = (omega arith, λ b waits hards. subst (Kept (c .args .t1) b) (sym waits) (all-waiting-kept (c .args .t1) b))
 
 walk-holds : tie.Need-walk-holds Inv-walk μ-walk Inv-loop μ-loop
-walk-holds c = (omega arith, walk-starts _ _ _ (c .loop .inv .set))
+walk-holds c = (omega arith, walk-starts _ _ _ (c .loop .inv .0))
 
 has-requires : tie.Need-has-requires Inv-walk μ-walk Inv-loop μ-loop
 has-requires c κs = search needs
@@ -84,58 +77,58 @@ walk-again : tie.Need-walk-again Inv-walk μ-walk Inv-loop μ-loop
 walk-again c =
     let at = c .before .before .before in
     let i = at .walk .i in
-    let l = c .before .before .walk-test .taken in
     let s = at .before .loop .began in
-    let a = at .before .before .before .before .args in
+    let ss = at .before .before .args .t1 in
+    let hard = has (at .before .before .args .on .hard) in
     let w = at .walk .inv .1 in
     let here = c .before .has .ensures in (
       omega arith,
       ⊎-elim
-          (λ v. subst (Walked (a .t1) (a .block) s (i + 1)) (sym (v .8))
-          (walk-strikes (a .t1) (a .block) s i (at .walk .kept) _ _ (at .before .loop .inv .set) (no-not (v .2 .result) (v .2 .ensures) (v .3 .taken))
-          (sym (has-of (hardOn (a .t1) (a .block)) _ i (at .before .before .before .set-of .ensures) l) ∙ sym (v .4 .ensures) ∙ v .5 .left)
-          w (v .6 .ensures) (v .7 .ensures)))
+          (λ v. subst (Walked ss hard s (i + 1)) (sym (v .8))
+          (walk-strikes ss hard s i (at .walk .kept) _ _ (at .before .loop .inv .0) (no-not (v .2 .result) (v .2 .ensures) (v .3 .taken))
+          (sym (v .4 .ensures) ∙ v .5 .left) w (v .6 .ensures) (v .7 .ensures)))
           (⊎-elim
-          (λ v. subst (Walked (a .t1) (a .block) s (i + 1)) (sym (v .4))
-          (walk-passes (a .t1) (a .block) s i (at .walk .kept) (λ p. yes-not (v .2 .result) (v .2 .ensures) (v .3 .left)) w))
-          (λ v. subst (Walked (a .t1) (a .block) s (i + 1)) (sym (v .1))
-          (walk-passes (a .t1) (a .block) s i (at .walk .kept) (λ p. absurd (clash p (sym here ∙ v .0 .left))) w)))
+          (λ v. subst (Walked ss hard s (i + 1)) (sym (v .4))
+          (walk-passes ss hard s i (at .walk .kept) (λ p. yes-not (v .2 .result) (v .2 .ensures) (v .3 .left)) w))
+          (λ v. subst (Walked ss hard s (i + 1)) (sym (v .1))
+          (walk-passes ss hard s i (at .walk .kept) (λ p. absurd (clash p (sym here ∙ v .0 .left))) w)))
           (c .if1 .came),
     )
 
 -- the walk left, at its end or at a hard patch, has made a round
 round : (c : tie.Left-walk Inv-walk μ-walk Inv-loop μ-loop)
-    → Round (c .before .before .before .before .before .args .t1) (c .before .before .before .before .before .args .block)
-    (c .before .before .loop .began) (c .walk-test .kept)
+    → let a = c .before .before .before .args in Round (a .t1) (has (a .on .hard)) (c .before .before .loop .began) (c .walk-test .kept)
 round c =
     let i = c .before .walk .i in
     let s = c .before .before .loop .began in
-    let a = c .before .before .before .before .before .args in
-    let fits = c .before .before .loop .inv .set in
+    let ss = c .before .before .before .args .t1 in
+    let hard = has (c .before .before .before .args .on .hard) in
     ⊎-elim
-    (λ w. subst (Round (a .t1) (a .block) s) (sym (w .1))
-    (walk-ends (a .t1) (a .block) s (c .before .walk .kept) fits
-    (subst (λ (k : ℕ). Walked (a .t1) (a .block) s k (c .before .walk .kept)) (omega arith) (c .before .walk .inv .1))))
-    (λ w. subst (Round (a .t1) (a .block) s) (sym (w .8))
-    (hard-strikes-all (a .t1) (a .block) s i (sym (w .1 .ensures) ∙ w .2 .taken)
-    (sym (has-of (hardOn (a .t1) (a .block)) _ i (c .before .before .before .before .set-of .ensures) (w .0 .taken)) ∙ sym (w .6 .ensures) ∙ w .7 .taken)
-    (no-not (w .4 .result) (w .4 .ensures) (w .5 .taken))))
+    (λ w. subst (Round ss hard s) (sym (w .1))
+    (walk-ends ss hard s (c .before .walk .kept) (c .before .before .loop .inv .0)
+    (subst (λ (k : ℕ). Walked ss hard s k (c .before .walk .kept)) (omega arith) (c .before .walk .inv .1))))
+    (λ w. subst (Round ss hard s) (sym (w .8))
+    (hard-strikes-all ss hard s i (sym (w .1 .ensures) ∙ w .2 .taken) (sym (w .6 .ensures) ∙ w .7 .taken) (no-not (w .4 .result) (w .4 .ensures) (w .5 .taken))))
     (c .walk-test .came)
 
 loop-less : tie.Need-loop-less Inv-walk μ-walk Inv-loop μ-loop
 loop-less c =
-    let r = round (c .before) in size-less _ _ (r .set) (c .before .before .before .loop .inv .set) (round-sub _ _ _ _ r) (c .if4 .left)
+    let r = round (c .before) in size-less _ _ (r .set) (c .before .before .before .loop .inv .0) (round-sub _ _ _ _ r) (c .if4 .left)
 
 loop-again : tie.Need-loop-again Inv-walk μ-walk Inv-loop μ-loop
-loop-again c = round-keeps _ _ _ _ (round (c .before)) (c .before .before .before .loop .inv)
+loop-again c =
+    let at = c .before .before .before in
+    let r = round (c .before) in
+    (r .set, λ b waits hards. round-keeps (at .before .args .t1) b (λ h l. has-of (hardOn (at .before .args .t1) b) _ h hards l) _ _ r (at .loop .inv .1 b waits hards))
 
 returns : tie.Need-returns Inv-walk μ-walk Inv-loop μ-loop
-returns c =
-    let k = c .before .before .before .loop .inv in
-    let a = c .before .before .before .before .before .before .args in
-    let s = c .before .before .before .loop .began in
-    subst (Largest (a .t1) (a .block)) (sym (c .if4 .taken))
-    (round-largest (a .t1) (a .block) s (subst (Round (a .t1) (a .block) s) (c .if4 .taken) (round (c .before))) k)
+returns c = λ b on.
+    let at = c .before .before .before in
+    let a = at .before .args in
+    let s = at .loop .began in
+    subst (Largest (a .t1) b) (sym (c .if4 .taken))
+    (round-largest (a .t1) b (λ h l. has-of (hardOn (a .t1) b) _ h (on .hard) l) s
+    (subst (Round (a .t1) (has (a .on .hard)) s) (c .if4 .taken) (round (c .before))) (at .loop .inv .1 b (on .waiting) (on .hard)))
 
 pub largest-spec : {M : Type 1} → statement M
 largest-spec =
@@ -145,8 +138,6 @@ largest-spec =
     μ-walk
     Inv-loop
     μ-loop
-    set-of-requires
-    set-of-requires-2
     loop-holds
     walk-holds
     has-requires

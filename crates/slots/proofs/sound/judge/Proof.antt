@@ -1,4 +1,4 @@
--- `slots::sound::is_sound` meets its contract. The loop's invariant: each slot passed is sound alone and apart from those below it, and
+-- `slots::sound::judge` meets its contract. The loop's invariant: each slot passed is sound alone and apart from those below it, and
 -- the sets and the marks have what the slots passed give. Assumes nothing.
 use Prim.Native.Nat.{ℕ, _^_, _≤_, _<_, _-_}
 use mathlib.Core.Path.{_≡_, sym, ap, _∙_, subst}
@@ -20,9 +20,9 @@ use Rattle.slots.specs.Tests.{roomIn, HeaderInRange, Alone, marked}
 use Rattle.slots.specs.Words.{Gathered, RoomsBelow}
 use Rattle.slots.proofs.Gathered.{gathered-none, gathered-pass, gathered-more}
 use Rattle.slots.proofs.Rooms.{rooms-none, rooms-more, meets-shares, shares-meets}
-use Rattle.slots.proofs.Tested.{Tested, Follows, NumberApart, sound-tested, sound-sub, tested-sound}
-use Rattle.slots.proofs.sound.is_sound.Statement.{statement}
-use Rattle.slots.proofs.sound.is_sound.Tie as tie
+use Rattle.slots.proofs.Tested.{Tested, Follows, NumberApart, sound-tested, sound-sub, tested-sound, not-sound}
+use Rattle.slots.proofs.sound.judge.Statement.{statement}
+use Rattle.slots.proofs.sound.judge.Tie as tie
 
 -- the numbers of the slots below i are marked
 abbrev MarkedBelow : List Slot → ℕ → List ℕ → Type 0
@@ -39,17 +39,23 @@ record Passed (first next : ℕ) (ss : List Slot) (marks : List ℕ) (taken in-u
   tested : (k : ℕ) → k < i → Tested first next ss k
 
 abbrev Inv-loop : tie.InvT-loop
-Inv-loop first next slots marks₀ taken₀ used₀ befores₀ i₀ marks taken used befores i = Passed first next slots marks taken used befores i
+Inv-loop first next slots marks₀ rooms₀ used₀ befores₀ i₀ marks rooms used befores i = Passed first next slots marks rooms used befores i
 
 abbrev μ-loop : tie.MeasureT-loop
-μ-loop first next slots marks₀ taken₀ used₀ befores₀ i₀ marks taken used befores i = 64 - i
+μ-loop first next slots marks₀ rooms₀ used₀ befores₀ i₀ marks rooms used befores i = 64 - i
 
 header-in-range-requires : tie.Need-header-in-range-requires Inv-loop μ-loop
 header-in-range-requires c κs = search needs
 
+unsound-requires : tie.Need-unsound-requires Inv-loop μ-loop
+unsound-requires c κs = search needs
+
 returns : tie.Need-returns Inv-loop μ-loop
-returns c = λ s. no-not {P = HeaderInRange _ _} (c .before .header-in-range .result) (c .before .header-in-range .ensures) (c .if1 .taken)
-    (record { first-least = s .first-least; first-most = s .first-most; next-least = s .next-least; next-most = s .next-most })
+returns c =
+    let at = c .before in
+    not-sound _ (c .unsound .ensures)
+    (λ s. no-not {P = HeaderInRange _ _} (at .before .header-in-range .result) (at .before .header-in-range .ensures) (at .if1 .taken)
+    (record { first-least = s .first-least; first-most = s .first-most; next-least = s .next-least; next-most = s .next-most }))
 
 loop-holds : tie.Need-loop-holds Inv-loop μ-loop
 loop-holds c = record {
@@ -112,11 +118,15 @@ passes : (c : tie.Else2 Inv-loop μ-loop)
     Sound (tableOf (a .first) (a .next) (a .t3)) → Tested (a .first) (a .next) (a .t3) (at .loop .i)
 passes c s = sound-tested s _ (c .before .before .before .loop-test .taken)
 
+unsound-requires-2 : tie.Need-unsound-requires-2 Inv-loop μ-loop
+unsound-requires-2 c κs = search needs
+
 returns-2 : tie.Need-returns-2 Inv-loop μ-loop
 returns-2 c =
-    let at = c .before .before in
-    λ s. no-not {P = Alone _ _ _ _} (c .before .sound-alone .result) (c .before .sound-alone .ensures) (c .if3 .taken)
-    (passes at s .alone (in-use at))
+    let test = c .before in
+    let at = test .before .before in
+    not-sound _ (c .unsound2 .ensures)
+    (λ s. no-not {P = Alone _ _ _ _} (test .before .sound-alone .result) (test .before .sound-alone .ensures) (test .if3 .taken) (passes at s .alone (in-use at)))
 
 mark-requires : tie.Need-mark-requires Inv-loop μ-loop
 mark-requires c κs = c .before .before .before .before .before .before .before .loop .inv .size
@@ -124,11 +134,14 @@ mark-requires c κs = c .before .before .before .before .before .before .before 
 find-requires : tie.Need-find-requires Inv-loop μ-loop
 find-requires c κs = search needs
 
+unsound-requires-3 : tie.Need-unsound-requires-3 Inv-loop μ-loop
+unsound-requires-3 c κs = search needs
+
 returns-3 : tie.Need-returns-3 Inv-loop μ-loop
 returns-3 c =
-    let at = c .before .before .before .before .before .before .before in
-    let found = c .before .find .ensures in
-    λ s. passes at s .number (in-use at) _ (c .if5 .taken) (found .there (omega arith))
+    let test = c .before in
+    let at = test .before .before .before .before .before .before .before in
+    not-sound _ (c .unsound3 .ensures) (λ s. passes at s .number (in-use at) _ (test .if5 .taken) (test .before .find .ensures .there (omega arith)))
 
 room-set-requires : tie.Need-room-set-requires Inv-loop μ-loop
 room-set-requires c κs = search needs
@@ -136,13 +149,17 @@ room-set-requires c κs = search needs
 meets-requires : tie.Need-meets-requires Inv-loop μ-loop
 meets-requires c κs = search needs
 
+unsound-requires-4 : tie.Need-unsound-requires-4 Inv-loop μ-loop
+unsound-requires-4 c κs = search needs
+
 returns-4 : tie.Need-returns-4 Inv-loop μ-loop
 returns-4 c =
-    let at = c .before .before .before .before .before .before .before .before in
+    let test = c .before in
+    let at = test .before .before .before .before .before .before .before .before in
     let shared =
-    meets-shares (at .before .before .before .before .before .before .before .args .t3) (at .before .before .before .before .loop .inv .rooms) (c .before .before .room-set .ensures)
-    (yes-of (c .before .meets .result) (c .before .meets .ensures) (c .if6 .taken)) in
-    λ s. passes at s .room (shared .0) (shared .1) (shared .2) (shared .3) (shared .4)
+    meets-shares (at .before .before .before .before .before .before .before .args .t3) (at .before .before .before .before .loop .inv .rooms)
+    (test .before .before .room-set .ensures) (yes-of (test .before .meets .result) (test .before .meets .ensures) (test .if6 .taken)) in
+    not-sound _ (c .unsound4 .ensures) (λ s. passes at s .room (shared .0) (shared .1) (shared .2) (shared .3) (shared .4))
 
 joined-requires : tie.Need-joined-requires Inv-loop μ-loop
 joined-requires c κs = search needs
@@ -207,23 +224,28 @@ within-requires c κs = search needs
 returns-5 : tie.Need-returns-5 Inv-loop μ-loop
 returns-5 c =
     let at = c .before .before in
-    let start = at .before .before .before in
+    let ss = at .before .before .before .args .t3 in
     let passed = at .loop .inv in
     let all : at .loop .i ≡ 64 = omega arith in
-    let follows : Gathered (Follows (start .args .t3)) 64 (at .loop .befores) = subst (λ (n : ℕ). Gathered (Follows (start .args .t3)) n (at .loop .befores)) all (passed .follows) in
-    let uses = passed .uses ∙ ap (setBelow (used (start .args .t3))) all in
+    let follows = subst (λ (n : ℕ). Gathered (Follows ss) n (at .loop .befores)) all (passed .follows) in
+    let uses = passed .uses ∙ ap (setBelow (used ss)) all in
     let header = yes-not {P = HeaderInRange _ _} (at .before .before .header-in-range .result) (at .before .before .header-in-range .ensures) (at .before .if1 .left) in
-    decides (c .within .result)
-    (λ e. tested-sound follows uses header (λ i l. passed .tested i (omega arith)) (yes-of (c .within .result) (c .within .ensures) e))
-    (λ e s. no-of (c .within .result) (c .within .ensures) e (sound-sub follows uses s (passed .fits)))
+    record {
+      decides = decides (c .within .result)
+          (λ e. tested-sound follows uses header (λ i l. passed .tested i (omega arith)) (yes-of (c .within .result) (c .within .ensures) e))
+          (λ e s. no-of (c .within .result) (c .within .ensures) e (sound-sub follows uses s (passed .fits)));
+      used-slots = λ e. uses;
+      taken-rooms = λ e. subst (λ (n : ℕ). RoomsBelow ss n (at .loop .rooms)) all (passed .rooms);
+    }
 
-pub is-sound-spec : {M : Type 1} → statement M
-is-sound-spec =
+pub judge-spec : {M : Type 1} → statement M
+judge-spec =
     tie.close
     (tie.spec
     Inv-loop
     μ-loop
     header-in-range-requires
+    unsound-requires
     returns
     loop-holds
     mul-s
@@ -233,12 +255,15 @@ is-sound-spec =
     loop-less
     loop-again
     sound-alone-requires
+    unsound-requires-2
     returns-2
     mark-requires
     find-requires
+    unsound-requires-3
     returns-3
     room-set-requires
     meets-requires
+    unsound-requires-4
     returns-4
     joined-requires
     with-requires

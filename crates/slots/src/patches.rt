@@ -1,0 +1,37 @@
+// The patches of one block, as sets of slots. Every call that names a block asks for some of these
+// sets, so one walk gathers them all, and what a call does not use the compiler leaves out.
+ghost use Rattle.slots.specs.Words.{PatchesOn};
+use crate::words::is_hard;
+use crate::words::is_in_flight;
+use crate::words::is_waiting;
+use rules::Slot;
+
+// Those that wait, those of them that are hard, and those in flight.
+pub struct Patches {
+    pub waiting: u64,
+    pub hard: u64,
+    pub in_flight: u64,
+}
+
+pub fn patches_on(slots: [Slot; 64], block: u32) -> Patches
+    ensures { λ r. ⌜ PatchesOn slots block r ⌝ }
+{
+    let mut waiting: u64 = 0;
+    let mut hard: u64 = 0;
+    let mut in_flight: u64 = 0;
+    for i in 0..64 {
+        let s = slots[i];
+        if s.block != block {
+            continue;
+        }
+        let u = s.state;
+        waiting = masks::with_if(waiting, i, is_waiting(u));
+        hard = masks::with_if(hard, i, is_hard(u));
+        in_flight = masks::with_if(in_flight, i, is_in_flight(u));
+    }
+    Patches {
+        waiting,
+        hard,
+        in_flight,
+    }
+}
