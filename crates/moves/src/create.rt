@@ -1,6 +1,7 @@
 // The slots with a new patch in one of them; a hard creation turns the block's soft patches hard.
 ghost use mathlib.Core.Path.{_≡_};
 ghost use Rattle.rules.specs.declared.Hold.the-variants.{Hard};
+ghost use Rattle.rules.specs.Slots.{withState};
 ghost use Rattle.rules.specs.Table.{slotAt, slotsBy};
 ghost use Rattle.rules.specs.Create.{turnedState, turned, acceptedSlots};
 use crate::slot::with_state;
@@ -19,25 +20,26 @@ fn turned_state(u: State) -> State
     }
 }
 
-// A slot as a hard creation on the block leaves it.
-fn turned(s: Slot, block: u32) -> Slot
-    ensures { λ r. ⌜ r ≡ turned Hard block s ⌝ }
+// A slot of the block as a hard creation leaves it.
+fn turned_slot(s: Slot) -> Slot
+    ensures { λ r. ⌜ r ≡ withState (turnedState (s .state)) s ⌝ }
 {
-    if s.block == block {
-        let u = s.state;
-        return with_state(s, turned_state(u));
-    }
-    s
+    let u = s.state;
+    with_state(s, turned_state(u))
 }
 
-// All slots so.
+// All slots as a hard creation on the block leaves them.
 fn turned_all(slots: [Slot; 64], block: u32) -> [Slot; 64]
     ensures { λ r. ⌜ r ≡ slotsBy (λ i. turned Hard block (slotAt slots i)) ⌝ }
 {
     let mut next = slots;
     for i in 0..64 {
-        let s = turned(next[i], block);
-        next[i] = s;
+        let s = next[i];
+        if s.block != block {
+            continue;
+        }
+        let t = turned_slot(s);
+        next[i] = t;
     }
     next
 }

@@ -13,7 +13,7 @@ returns : tie.Need-returns
 returns c = λ h. clash (h .0) (sym (c .before .is-used .ensures) ∙ not-true _ (c .if1 .taken))
 
 returns-2 : tie.Need-returns-2
-returns-2 c = search needs
+returns-2 c = λ h. h .1 (c .if2 .taken)
 
 meets-requires : tie.Need-meets-requires
 meets-requires c κs = search needs
