@@ -13,23 +13,17 @@ use Rattle.rules.specs.declared.Hold.the-variants as hold
 use Rattle.rules.specs.declared.State.{State}
 use Rattle.rules.specs.declared.State.the-variants as state
 use Rattle.rules.specs.declared.Slot.{Slot}
+use Rattle.rules.specs.Slots.{roomOf}
 use Rattle.rules.specs.Table.{slotAt, HasRoom}
-use Rattle.slots.specs.declared.sound.Room.the-variants as room
-use Rattle.slots.specs.Tests.{roomIn}
 use Rattle.slots.specs.Words.{hasRoom, RoomsBelow}
 use Rattle.slots.proofs.Gathered.{gathered-none, gathered-more}
 
-pub room-soft : (u : State) (r : ℕ) → roomIn u ≡ room.At r → u ≡ state.Waiting (hold.Soft r)
-room-soft state.Free r e = absurd (let z : _≡_ {A = ℕ} 0 1 = cc in omega arith)
-room-soft (state.Waiting hold.Hard) r e = absurd (let z : _≡_ {A = ℕ} 0 1 = cc in omega arith)
-room-soft (state.Waiting (hold.Soft q)) r e = let z : q ≡ r = cc in ap (λ (x : ℕ). state.Waiting (hold.Soft x)) z
-room-soft (state.InFlight k) r e = absurd (let z : _≡_ {A = ℕ} 0 1 = cc in omega arith)
-
-pub no-room : (u : State) → roomIn u ≡ room.Nowhere → (r : ℕ) → roomIn u ≡ room.At r → ⊥
-no-room u n r e = let z : _≡_ {A = ℕ} 0 1 = cc in omega arith
-
-pub one-room : (u : State) (r q : ℕ) → roomIn u ≡ room.At r → roomIn u ≡ room.At q → r ≡ q
-one-room u r q a b = cc
+-- where every soft patch's room is below n, so is what roomOf says of any state
+pub room-below : (u : State) (n : ℕ) → 0 < n → ((r : ℕ) → u ≡ state.Waiting (hold.Soft r) → r < n) → roomOf u < n
+room-below state.Free n l f = l
+room-below (state.Waiting hold.Hard) n l f = l
+room-below (state.Waiting (hold.Soft r)) n l f = f r refl
+room-below (state.InFlight k) n l f = l
 
 -- ---- the test of a room
 

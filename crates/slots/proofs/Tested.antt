@@ -10,14 +10,15 @@ use Rattle.masks.specs.Decides.{Decides}
 use Rattle.masks.specs.Sets.{has, setOf, Sub}
 use Rattle.masks.proofs.Decided.{clash}
 use Rattle.masks.proofs.Laws.{has-of, has-slot}
+use Rattle.rules.specs.declared.State.{State}
 use Rattle.rules.specs.declared.Slot.{Slot}
-use Rattle.rules.specs.Sizes.{slots}
-use Rattle.rules.specs.Slots.{isUsed}
+use Rattle.rules.specs.Sizes.{slots, rooms}
+use Rattle.rules.specs.Slots.{isUsed, roomOf}
 use Rattle.rules.specs.Table.{Sound, tableOf, used, slotAt, HasRoom}
-use Rattle.slots.specs.Tests.{roomIn, HeaderInRange, Alone}
+use Rattle.slots.specs.Tests.{HeaderInRange, Alone}
 use Rattle.slots.specs.declared.sound.Verdict.{Verdict}
 use Rattle.slots.specs.Words.{Carries, Gathered, IsVerdict}
-use Rattle.slots.proofs.Rooms.{room-soft}
+use Rattle.slots.proofs.Rooms.{room-below}
 
 -- slot i has not the room of a slot below it
 abbrev pub RoomApart : List Slot → ℕ → Type 0
@@ -60,7 +61,7 @@ module _ {first next : ℕ} {ss : List Slot} where
         ends = s .ends i l u;
       };
       befores-other = s .befores-other i l u;
-      room-most = λ r e. s .room-most i r l (room-soft (slotAt ss i .state) r e);
+      room-most = room-below (slotAt ss i .state) rooms (omega arith) (λ r e. s .room-most i r l e);
     };
     number = λ u j b v. let q = s .numbers-differ j i (omega arith) l (v .0) u (v .1) in omega arith;
     room = λ j r b e f. let q = s .rooms-differ i j r l (omega arith) e f in omega arith;
@@ -92,7 +93,7 @@ module _ {first next : ℕ} {ss : List Slot} where
       ends = λ i l u. t i l .alone u .range .ends;
       befores-used = λ i j l k u h. sym (has-of (used ss) n j is-used k) ∙ sub j (befores .all i j l k (u, h));
       befores-other = λ i l u. t i l .alone u .befores-other;
-      room-most = λ i r l e. t i l .alone (ap isUsed e) .room-most r (ap roomIn e);
+      room-most = λ i r l e. subst (λ (u : State). roomOf u < rooms) e (t i l .alone (ap isUsed e) .room-most);
       rooms-differ = λ i j r l k e f.
           below-same {P = λ i j. HasRoom ss i r × HasRoom ss j r} (λ i j l b h. t i l .room j r b (h .0) (h .1)) (λ i j h. (h .1, h .0)) i j l k (e, f);
     }

@@ -5,20 +5,9 @@ use mathlib.Core.Bool.{Bool, true}
 use mathlib.Core.List.{List}
 use lib.ListN.{length, getD}
 use Rattle.masks.specs.Sets.{has}
-use Rattle.rules.specs.declared.Hold.the-variants as hold
-use Rattle.rules.specs.declared.State.{State}
-use Rattle.rules.specs.declared.State.the-variants as state
 use Rattle.rules.specs.declared.Slot.{Slot}
+use Rattle.rules.specs.Slots.{roomOf}
 use Rattle.rules.specs.Sizes.{blocks, blockBytes, rooms, mostBytes, lastNumber}
-use Rattle.slots.specs.declared.sound.Room.{Room}
-use Rattle.slots.specs.declared.sound.Room.the-variants as room
-
--- the undo room of a patch in a state, where it has one
-abbrev pub roomIn : State → Room
-roomIn state.Free = room.Nowhere
-roomIn (state.Waiting hold.Hard) = room.Nowhere
-roomIn (state.Waiting (hold.Soft r)) = room.At r
-roomIn (state.InFlight k) = room.Nowhere
 
 -- first is 1 to 1,000,000,000; next is from first to 1,000,000,001
 pub record HeaderInRange (first next : ℕ) : Type 0 where
@@ -40,7 +29,7 @@ pub record InRange (first next : ℕ) (s : Slot) : Type 0 where
 pub record Alone (first next i : ℕ) (s : Slot) : Type 0 where
   pub range : InRange first next s
   pub befores-other : has (s .befores) i ≡ true → ⊥
-  pub room-most : (r : ℕ) → roomIn (s .state) ≡ room.At r → r < rooms
+  pub room-most : roomOf (s .state) < rooms
 
 -- the mark of the number n is among the marks ms: it is chosen by the ten lowest binary digits of n
 abbrev pub marked : List ℕ → ℕ → Bool

@@ -4,33 +4,13 @@ ghost use mathlib.Core.Bool.{false};
 ghost use lib.ListN.{length};
 ghost use Rattle.masks.specs.Decides.{Decides};
 ghost use Rattle.rules.specs.Table.{Sound, tableOf};
-ghost use Rattle.slots.specs.Tests.{roomIn, HeaderInRange, InRange, Alone, Marking};
+ghost use Rattle.slots.specs.Tests.{HeaderInRange, InRange, Alone, Marking};
 ghost use Rattle.slots.specs.Words.{IsVerdict};
 use crate::walks::find;
 use crate::words::is_used;
+use crate::words::room_of;
 use crate::words::room_set;
-use rules::Hold;
 use rules::Slot;
-use rules::State;
-
-// The undo room of a slot's patch, if it has one.
-enum Room {
-    At(u32),
-    Nowhere,
-}
-
-fn room_of(u: State) -> Room
-    ensures { λ r. ⌜ r ≡ roomIn u ⌝ }
-{
-    match u {
-        State::Free => Room::Nowhere,
-        State::Waiting(h) => match h {
-            Hold::Hard => Room::Nowhere,
-            Hold::Soft(r) => Room::At(r),
-        },
-        State::InFlight(_) => Room::Nowhere,
-    }
-}
 
 // Whether the first and the next number are within their bounds.
 fn header_in_range(first: u32, next: u32) -> bool
@@ -87,10 +67,7 @@ fn sound_alone(s: Slot, i: usize, first: u32, next: u32) -> bool
         return false;
     }
     let u = s.state;
-    let Room::At(r) = room_of(u) else {
-        return true;
-    };
-    if 15 < r {
+    if 15 < room_of(u) {
         return false;
     }
     true

@@ -13,10 +13,11 @@ use lib.ListN.{length}
 use Rattle.masks.specs.Sets.{setBelow}
 use Rattle.masks.proofs.Decided.{clash, yes-of, no-of, yes-not, no-not, decides}
 use Rattle.masks.proofs.Laws as sets
+use Rattle.rules.specs.declared.State.{State}
 use Rattle.rules.specs.declared.Slot.{Slot}
-use Rattle.rules.specs.Slots.{isUsed}
+use Rattle.rules.specs.Slots.{isUsed, roomOf}
 use Rattle.rules.specs.Table.{Sound, tableOf, used, slotAt}
-use Rattle.slots.specs.Tests.{roomIn, HeaderInRange, Alone, marked}
+use Rattle.slots.specs.Tests.{HeaderInRange, Alone, marked}
 use Rattle.slots.specs.Words.{Gathered, RoomsBelow}
 use Rattle.slots.proofs.Gathered.{gathered-none, gathered-pass, gathered-more}
 use Rattle.slots.proofs.Rooms.{rooms-none, rooms-more, meets-shares, shares-meets}
@@ -212,7 +213,7 @@ loop-again-2 c =
         alone = λ v. sound;
         number = λ v. apart number;
         room = λ j r b e f.
-            let most = sound .room-most r (ap roomIn e) in
+            let most : r < 16 = subst (λ (u : State). roomOf u < 16) e (sound .room-most) in
             no-of (free .before .meets .result) (free .before .meets .ensures) (free .if6 .left)
             (shares-meets ss (passed .rooms) (rooms .room-set .ensures) j r b (omega arith) e f);
       });
