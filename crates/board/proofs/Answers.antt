@@ -1,8 +1,8 @@
 -- Each exported function's promise, from what the call of `cache` that it wraps has promised. Assumes nothing.
 use Prim.Native.Nat.{ℕ, _<_}
 use mathlib.Core.Path.{_≡_, refl, sym, ap, ap₂, subst, _∙_}
-use mathlib.Core.List.{List, [], _∷_}
-use mathlib.Core.Logic.{_⊎_, inl, inr, ⊎-elim}
+use mathlib.Core.List.{List}
+use mathlib.Core.Logic.{_⊎_}
 use mathlib.Core.Option.{some}
 use native.Mathlib.Omega.{arith}
 use borrow.Author.Tests.{ne-eqb}
@@ -20,47 +20,9 @@ use Rattle.rules.specs.declared.WriteAnswer.the-variants as write
 use Rattle.rules.specs.Table.{Table}
 use Rattle.rules.specs.Create.{Change, HoldOf}
 use Rattle.rules.specs.Refusals.{First, WrongSize}
-use Rattle.rules.specs.Calls.{
-  plainNumber,
-  Opening,
-  Opens,
-  createNumber,
-  patchNumber,
-  hardOrSoft,
-  Creation,
-  Accepts,
-  Creates,
-  writeNumber,
-  sentSet,
-  Writing,
-  Writes,
-  Completion,
-  Completes,
-  askNumber,
-  Asks,
-  countNumber,
-  counted,
-  Counts,
-}
+use Rattle.rules.specs.Calls.{plainNumber, Opening, Opens, createNumber, patchNumber, hardOrSoft, Creation, Accepts, Creates, writeNumber, sentSet, Writing, Writes, Completion, Completes, askNumber, Asks, countNumber, counted, Counts}
 use Rattle.board.specs.Layout.{tableBytes, IsTable, tableIn, bytesOf}
-use Rattle.board.specs.Calls.{
-  tableAfter,
-  noTableCases,
-  OpenCall,
-  holdNumber,
-  CreateEnd,
-  createEnd,
-  createNone,
-  CreateCall,
-  WriteEnd,
-  writeEnd,
-  writeNone,
-  WriteCall,
-  CompleteCall,
-  stateNumber,
-  AskCall,
-  CountCall,
-}
+use Rattle.board.specs.Calls.{tableAfter, noTableCases, OpenCall, holdNumber, CreateEnd, createNone, CreateCall, WriteEnd, writeNone, WriteCall, CompleteCall, stateNumber, AskCall, CountCall}
 
 -- ---- open
 

@@ -1,10 +1,10 @@
 -- Reading back what was written gives the same table: for every table whose fields fit their widths. Assumes nothing.
 use Prim.Native.Nat.{ℕ, zero, suc, _+_, _*_, _^_, _≤_, _<_}
 use mathlib.Core.Path.{_≡_, refl, sym, ap, ap₂, subst, _∙_}
-use mathlib.Core.List.{List, [], _∷_, _++_, append-assoc}
+use mathlib.Core.List.{List, _∷_, _++_}
 use native.Mathlib.Nat.{add-zero, add-assoc}
 use native.Mathlib.Omega.{arith}
-use lib.ListN.{length, getD, take, drop, length-append}
+use lib.ListN.{length, getD, take, drop}
 use lib.Seq.{split-at, length-take-le, getD-append-add}
 use Rattle.rules.specs.declared.Hold.the-variants as hold
 use Rattle.rules.specs.declared.Kind.the-variants as kind
@@ -13,23 +13,9 @@ use Rattle.rules.specs.declared.State.the-variants as state
 use Rattle.rules.specs.declared.Slot.{Slot}
 use Rattle.rules.specs.Sizes.{slots}
 use Rattle.rules.specs.Slots.{roomOf, freeSlot}
-use Rattle.rules.specs.Table.{Table, slotAt, slotsBy}
+use Rattle.rules.specs.Table.{Table, slotAt}
 use Rattle.rules.proofs.SlotsBy.{slots-are}
-use Rattle.board.specs.Layout.{
-  slotStart,
-  numberAt,
-  stateOf,
-  slotIn,
-  tableIn,
-  IsTable,
-  inBytes,
-  tagOf,
-  slotBytes,
-  slotsBytes,
-  bytesOf,
-  SlotFits,
-  TableFits,
-}
+use Rattle.board.specs.Layout.{slotStart, numberAt, stateOf, slotIn, tableIn, IsTable, inBytes, tagOf, slotBytes, slotsBytes, bytesOf, SlotFits, TableFits}
 use Rattle.board.proofs.Laid.{length-slots, slots-append, length-table}
 
 -- ---- one number

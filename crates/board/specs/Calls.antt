@@ -17,27 +17,7 @@ use Rattle.rules.specs.Sizes.{imageBytes, undoBytes, blockBytes}
 use Rattle.rules.specs.Table.{Table}
 use Rattle.rules.specs.Create.{Change}
 use Rattle.rules.specs.Refusals.{Case, case, First, WrongSize}
-use Rattle.rules.specs.Calls.{
-  plainNumber,
-  Opening,
-  Opens,
-  createNumber,
-  patchNumber,
-  hardOrSoft,
-  Creation,
-  Creates,
-  writeNumber,
-  sentSet,
-  Writing,
-  Writes,
-  Completion,
-  Completes,
-  askNumber,
-  Asks,
-  countNumber,
-  counted,
-  Counts,
-}
+use Rattle.rules.specs.Calls.{plainNumber, Opening, Opens, createNumber, patchNumber, hardOrSoft, Creation, Creates, writeNumber, sentSet, Writing, Writes, Completion, Completes, askNumber, Asks, countNumber, counted, Counts}
 use Rattle.board.specs.Layout.{tableBytes, IsTable, tableIn, bytesOf}
 
 -- the table's bytes afterwards: a granted call writes the whole table, a refused one changes no byte of it

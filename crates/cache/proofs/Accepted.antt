@@ -2,7 +2,7 @@
 use Prim.Native.Nat.{ℕ, _+_, _*_, _≤_, _<_}
 use mathlib.Core.Path.{_≡_, refl, sym, ap, ap₂, subst₃}
 use mathlib.Core.List.{List, [], _∷_}
-use mathlib.Core.Logic.{_⊎_, inl, inr, ⊎-elim}
+use mathlib.Core.Logic.{_⊎_, ⊎-elim}
 use native.Mathlib.Nat.{mul-comm}
 use native.Mathlib.Omega.{arith}
 use lib.ListN.{length}
@@ -11,7 +11,6 @@ use Rattle.spans.proofs.Laws.{part-whole}
 use Rattle.rules.specs.declared.Hold.{Hold}
 use Rattle.rules.specs.declared.Hold.the-variants as hold
 use Rattle.rules.specs.declared.CreateAnswer.the-variants as create
-use Rattle.rules.specs.declared.Slot.{Slot}
 use Rattle.rules.specs.Sizes.{roomStart, blocks, blockBytes, imageBytes, undoBytes, slots, mostBytes, mostNamed, lastNumber}
 use Rattle.rules.specs.Table.{Table, Sound}
 use Rattle.rules.specs.Create.{Change, Lowest, FreeSlot, HoldOf, accepted, changed, kept}

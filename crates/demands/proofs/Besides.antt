@@ -1,11 +1,10 @@
 -- The notes of a good history are true.
-use Prim.Native.Nat.{ℕ, _+_, _≤_, _<_}
+use Prim.Native.Nat.{ℕ, _<_}
 use native.Mathlib.Omega.{arith}
 use mathlib.Core.Path.{_≡_, refl, sym, _∙_, ap, subst}
-use mathlib.Core.Bool.{Bool, true, false}
-use mathlib.Core.List.{List, [], _∷_, List·Memᴰ, List·Memᴰ·head, List·Memᴰ·tail}
+use mathlib.Core.Bool.{true}
+use mathlib.Core.List.{List, _∷_, List·Memᴰ, List·Memᴰ·head, List·Memᴰ·tail}
 use mathlib.Core.Option.{Option, none, some}
-use mathlib.Core.Logic.{_⊎_, inl, inr}
 use borrow.Author.Tests.{eq-eqb}
 use Rattle.masks.proofs.Decided.{clash, true-and, true-or-l, true-or-r}
 use Rattle.rules.specs.declared.AskAnswer.{AskAnswer}
@@ -26,7 +25,7 @@ use Rattle.demands.specs.History.{History, Accepted, Sent}
 use Rattle.demands.specs.Demand3.{sentIn, NotesTrue}
 use Rattle.demands.proofs.Notes.{mem-left}
 use Rattle.demands.proofs.Lookup.{slotOf, carries-used, carries-number, slot-carries, no-slot}
-use Rattle.demands.proofs.Radio.{stateWord, stateAt, plain, isDone, isOut, Good}
+use Rattle.demands.proofs.Radio.{stateWord, stateAt, isDone, isOut, Good}
 use Rattle.demands.proofs.Numbers.{numbered}
 
 -- a write that is noted sent what it sent

@@ -1,29 +1,27 @@
 -- A granted complete is a landing of `cut`, and leaves a good history.
-use Prim.Native.Nat.{ℕ, zero, suc, _+_, _-_, _≤_, _<_}
+use Prim.Native.Nat.{ℕ, _+_, _-_, _<_}
 use native.Mathlib.Omega.{arith}
 use mathlib.Core.Path.{_≡_, refl, sym, _∙_, ap, ap₂, subst}
 use mathlib.Core.Bool.{Bool, true, false, cond, _&&_, _||_, not}
-use mathlib.Core.List.{List, [], _∷_, _++_, map, List·Memᴰ}
+use mathlib.Core.List.{List, _++_, List·Memᴰ}
 use mathlib.Core.Option.{Option, none, some}
 use mathlib.Core.Logic.{_≢_, _⊎_, inl, inr, ⊎-elim}
-use borrow.Author.Tests.{eq-eqb, ne-eqb, eqb-true, eqb-false}
+use borrow.Author.Tests.{eq-eqb, ne-eqb, eqb-true}
 use lib.Dec.{eqb}
-use lib.ListN.{length}
-use Rattle.masks.specs.Sets.{has, setOf}
+use Rattle.masks.specs.Sets.{has}
 use Rattle.masks.proofs.Laws.{has-set}
 use Rattle.masks.proofs.Decided.{clash, and-true, true-and}
 use Rattle.rules.specs.declared.State as rules
 use Rattle.rules.specs.declared.State.the-variants as state
 use Rattle.rules.specs.declared.Slot.{Slot}
-use Rattle.rules.specs.Sizes.{slots, imageBytes}
-use Rattle.rules.specs.Slots.{isUsed, isInFlight, roomOf, freeSlot, withBefores}
-use Rattle.rules.specs.Table.{Table, slotAt, used, fliesOn, Sound}
-use Rattle.rules.specs.Create.{isIn}
+use Rattle.rules.specs.Sizes.{slots}
+use Rattle.rules.specs.Slots.{isUsed, isInFlight, roomOf, withBefores}
+use Rattle.rules.specs.Table.{slotAt, used, fliesOn, Sound}
 use Rattle.rules.specs.Complete.{remaining, completedSlots, completed}
 use Rattle.rules.proofs.StaysSound.{Finished, finished, completed-sound}
-use Rattle.cut.specs.Changes.{Change, Earlier}
-use Rattle.cut.specs.World.{World, State, waiting, inFlight, committed, settled, Must, Lands, Step}
-use Rattle.cut.proofs.Facts.{newer-in, older-in, same-or-other}
+use Rattle.cut.specs.Changes.{Change}
+use Rattle.cut.specs.World.{State, waiting, inFlight, committed, settled, Lands, Step}
+use Rattle.cut.proofs.Facts.{same-or-other}
 use Rattle.cut.proofs.Core.{step-keeps}
 use Rattle.demands.specs.History.{History, Accepted, Sent, those}
 use Rattle.demands.specs.Demand3.{written, sentIn}

@@ -1,44 +1,44 @@
 -- A granted create is an acceptance of `cut`, and leaves a good history.
-use Prim.Native.Nat.{ℕ, zero, suc, _+_, _-_, _≤_, _<_}
+use Prim.Native.Nat.{ℕ, _+_, _-_, _≤_, _<_}
 use native.Mathlib.Omega.{arith}
 use native.Mathlib.Decide.{decLt}
 use mathlib.Core.Path.{_≡_, refl, sym, _∙_, ap, subst}
-use mathlib.Core.Bool.{Bool, true, false, cond, _&&_, _||_}
-use mathlib.Core.List.{List, [], _∷_, _++_, map, List·Memᴰ, List·Memᴰ·head, List·Memᴰ·tail}
+use mathlib.Core.Bool.{Bool, true, false, cond, _||_}
+use mathlib.Core.List.{List, _∷_, _++_, map, List·Memᴰ, List·Memᴰ·head, List·Memᴰ·tail}
 use mathlib.Core.Option.{Option, none, some}
 use mathlib.Core.Logic.{_≢_, _⊎_, inl, inr}
-use borrow.Author.Tests.{eq-eqb, ne-eqb, eqb-true, lt-ltb}
-use lib.Dec.{eqb, ltb}
+use borrow.Author.Tests.{eq-eqb, ne-eqb}
+use lib.Dec.{eqb}
 use lib.ListN.{length, getD}
-use Rattle.masks.specs.Sets.{has, setOf}
+use Rattle.masks.specs.Sets.{has}
 use Rattle.masks.proofs.Laws.{has-set}
-use Rattle.masks.proofs.Decided.{clash, and-true, true-and, true-or-l, true-or-r, true-or-false, same-bool}
-use Rattle.spans.specs.Spans.{splice, part}
+use Rattle.masks.proofs.Decided.{clash, true-and, true-or-l, true-or-r, true-or-false, same-bool}
+use Rattle.spans.specs.Spans.{splice}
 use Rattle.spans.proofs.Laws.{length-splice, splice-in, splice-below, splice-above, length-part, part-in}
 use Rattle.rules.specs.declared.Hold.{Hold}
 use Rattle.rules.specs.declared.Hold.the-variants as hold
 use Rattle.rules.specs.declared.State as rules
 use Rattle.rules.specs.declared.State.the-variants as state
 use Rattle.rules.specs.declared.Slot.{Slot}
-use Rattle.rules.specs.Sizes.{blocks, blockBytes, blockStart, imageBytes, undoBytes, slots, rooms, roomStart, mostBytes}
+use Rattle.rules.specs.Sizes.{blockStart, undoBytes, slots, rooms, roomStart}
 use Rattle.rules.specs.Slots.{isUsed, roomOf, withState}
 use Rattle.rules.specs.Table.{Table, slotAt, used, Sound, HasRoom}
 use Rattle.rules.specs.Create as create
-use Rattle.rules.specs.Create.{Lowest, FreeSlot, FreeRoom, HoldOf, isIn, shares, isNamed, overlaps, befores, patch, turned, turnedState, acceptedSlots, accepted, place, oldBytes, changed, kept}
+use Rattle.rules.specs.Create.{Lowest, FreeSlot, FreeRoom, HoldOf, isIn, isNamed, overlaps, befores, patch, turned, turnedState, acceptedSlots, accepted, place, oldBytes, changed, kept}
 use Rattle.rules.proofs.SlotsBy.{slot-by}
 use Rattle.rules.proofs.StaysSound.{Valid, accepted-sound}
 use Rattle.rules.proofs.Pins.{byte-shared}
-use Rattle.cut.specs.Changes.{Store, Change, covers, carryOut, Earlier, Share}
-use Rattle.cut.specs.World.{World, State, waiting, inFlight, committed, Must, Accepts, Step}
+use Rattle.cut.specs.Changes.{Change, covers}
+use Rattle.cut.specs.World.{State, waiting, inFlight, committed, Must, Accepts, Step}
 use Rattle.cut.proofs.Facts.{newer-in, older-in, same-or-other}
 use Rattle.cut.proofs.Core.{step-keeps}
 use Rattle.demands.specs.History.{History, Accepted, Sent}
 use Rattle.demands.proofs.Views.{view, view-in, view-splice, Within, inside-of}
 use Rattle.demands.specs.Demand3.{sentIn}
 use Rattle.demands.proofs.Notes.{sender, mem-left, mem-right}
-use Rattle.demands.proofs.Lookup.{carries, slotOf, carries-used, carries-number, carries-of, Distinct, at-slot, slot-carries, slot-same}
+use Rattle.demands.proofs.Lookup.{carries, slotOf, carries-used, carries-number, carries-of, at-slot, slot-carries, slot-same}
 use Rattle.demands.proofs.Numbers.{number-below, of-log}
-use Rattle.demands.proofs.Radio.{stateWord, isSoft, stateAt, softAt, roomAt, Tied, plain, Names, roomByte, room-byte, rooms-alike, oldByte, world, Same, Numbered, isDone, isOut, Good}
+use Rattle.demands.proofs.Radio.{stateWord, isSoft, stateAt, softAt, roomAt, Tied, plain, Names, roomByte, room-byte, rooms-alike, oldByte, world, Same, isDone, isOut, Good}
 
 -- the slot n is the slot s, but that a soft patch may have turned hard
 record Kin (n s : Slot) : Type 0 where

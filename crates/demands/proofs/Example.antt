@@ -2,7 +2,7 @@
 -- The theorem's conclusion is computed, and is neither the opening nor the working image.
 use Prim.Native.Nat.{ℕ}
 use mathlib.Core.Path.{_≡_, refl, sym, _∙_, ap}
-use mathlib.Core.Bool.{Bool, true, false}
+use mathlib.Core.Bool.{Bool}
 use mathlib.Core.List.{List, [], _∷_}
 use native.Mathlib.Omega.{arith}
 use lib.Dec.{eqb}
@@ -21,8 +21,8 @@ use Rattle.rules.proofs.StaysSound.{opened-sound}
 use Rattle.rules.proofs.Computed.{passesBelow, allIssued, lowest-free, hardTest, hard-tested, held-back, room-free, clearIn, hardsStay, round, rounds}
 use Rattle.rules.proofs.Steps.{Good, Made, Went, afterCreate, afterWrite, inBounds, open-row, create-row, write-row}
 use Rattle.demands.specs.History as history
-use Rattle.demands.specs.History.{History, Happened, Call, begun, those, numbersBelow}
-use Rattle.demands.specs.Demand3.{written, onStore, storeAfterCut, sentIn, hasLanded, carriedOut, CutSafe}
+use Rattle.demands.specs.History.{History, Happened, Call, begun, those}
+use Rattle.demands.specs.Demand3.{written, onStore, storeAfterCut, hasLanded, carriedOut}
 use Rattle.demands.proofs.Demand3.{demand-3}
 
 abbrev zeros : List ℕ

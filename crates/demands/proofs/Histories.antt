@@ -1,31 +1,29 @@
 -- Every history that can be is good: the opening is, and each call keeps it so.
-use Prim.Native.Nat.{ℕ, _+_, _≤_, _<_}
+use Prim.Native.Nat.{ℕ}
 use native.Mathlib.Omega.{arith}
 use native.Mathlib.Decide.{ℕ-discrete, decLt}
-use mathlib.Core.Path.{_≡_, refl, sym, _∙_, ap, subst}
+use mathlib.Core.Path.{_≡_, refl, sym, ap, subst}
 use mathlib.Core.Bool.{true, false}
-use mathlib.Core.List.{List, [], _∷_, List·Memᴰ·not-nil}
+use mathlib.Core.List.{List, List·Memᴰ·not-nil}
 use mathlib.Core.Logic.{_⊎_, inl, inr}
 use lib.ListN.{length}
 use Rattle.masks.specs.Sets.{has}
 use Rattle.masks.proofs.Laws.{has-none, no-member, a-member}
 use Rattle.masks.proofs.Decided.{clash, true-or-false}
-use Rattle.rules.specs.Sizes.{blocks, imageBytes, undoBytes, slots}
-use Rattle.rules.specs.Table.{Table, Sound, fliesOn}
+use Rattle.rules.specs.Sizes.{imageBytes, undoBytes, slots}
+use Rattle.rules.specs.Table.{Table}
 use Rattle.rules.specs.Open.{opened}
-use Rattle.rules.specs.Create.{Change, isIn, accepted}
+use Rattle.rules.specs.Create.{Change, accepted}
 use Rattle.rules.specs.Write.{MayGo, Largest, sent}
 use Rattle.rules.specs.Complete.{completed}
 use Rattle.rules.specs.Refusals.{First, Waits, createCases, writeCases}
-use Rattle.rules.specs.Calls.{Opening, Opens, openRefused, openGranted, plainNumber, Creation, Creates, createNumber, Writing, Writes, writeNumber, Completion, Completes}
+use Rattle.rules.specs.Calls.{Opening, Opens, plainNumber, Creation, Creates, createNumber, Writing, Writes, writeNumber, Completion, Completes}
 use Rattle.rules.proofs.Cases.{passed}
 use Rattle.rules.proofs.SoundCalls.{granted-valid, open-sound}
-use Rattle.cut.specs.World.{Opened}
 use Rattle.cut.proofs.Core.{open-invariant}
 use Rattle.demands.specs.History.{History, Call, Happened, begun, afterCreate, afterWrite, afterComplete}
 use Rattle.demands.specs.Demand3.{written, timesSent}
-use Rattle.demands.proofs.Views.{view}
-use Rattle.demands.proofs.Radio.{world, Good}
+use Rattle.demands.proofs.Radio.{Good}
 use Rattle.demands.proofs.Create.{created-good}
 use Rattle.demands.proofs.Write.{gone-good}
 use Rattle.demands.proofs.Complete.{landed-good}

@@ -11,7 +11,7 @@ use lib.Dec.{eqb}
 use Rattle.masks.proofs.Decided.{clash, and-true, true-and}
 use Rattle.rules.specs.declared.Slot.{Slot}
 use Rattle.rules.specs.Sizes.{slots}
-use Rattle.rules.specs.Table.{Table, slotAt, used, Sound}
+use Rattle.rules.specs.Table.{slotAt, used}
 use Rattle.cut.proofs.Facts.{same-or-other}
 
 abbrev orElse : Option ℕ → Bool → ℕ → Option ℕ

@@ -1,23 +1,23 @@
 -- The notes of a history: what writes leave on the store, block by block, and which numbers they sent.
 use Prim.Native.Nat.{ℕ, _+_, _<_}
-use native.Mathlib.Nat.{add-zero, zero-add}
+use native.Mathlib.Nat.{add-zero}
 use native.Mathlib.Omega.{arith}
-use mathlib.Core.Path.{_≡_, refl, sym, _∙_, ap, subst}
+use mathlib.Core.Path.{_≡_, refl, sym, _∙_, ap}
 use mathlib.Core.Bool.{Bool, true, false, cond, _&&_, _||_, not, or-assoc}
 use mathlib.Core.List.{List, [], _∷_, _++_, List·Memᴰ, List·Memᴰ·head, List·Memᴰ·tail, List·Memᴰ·not-nil}
 use mathlib.Core.Logic.{_⊎_, inl, inr, ⊎-elim}
 use lib.Dec.{eqb}
 use lib.ListN.{length}
-use Rattle.masks.proofs.Decided.{clash, true-or-false, or-true}
+use Rattle.masks.proofs.Decided.{clash, or-true}
 use Rattle.spans.specs.Spans.{splice}
 use Rattle.spans.proofs.Laws.{length-splice}
 use Rattle.rules.specs.Sizes.{imageBytes, blockBytes, blocks, blockStart}
 use Rattle.rules.specs.Create.{isIn}
-use Rattle.cut.specs.Changes.{Store, Change, covers, carryOut}
+use Rattle.cut.specs.Changes.{Change, covers, carryOut}
 use Rattle.cut.proofs.Facts.{carry-same, carry-inside, carry-outside}
 use Rattle.demands.specs.History.{Sent, those}
 use Rattle.demands.specs.Demand3.{written, sentIn, timesIn, timesSent}
-use Rattle.demands.proofs.Views.{view, view-splice, Within, covers-of, inside-of}
+use Rattle.demands.proofs.Views.{view, view-splice, inside-of}
 
 -- a write is a change of all its block's bytes
 abbrev pub whole : Sent → Change

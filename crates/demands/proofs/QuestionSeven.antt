@@ -1,5 +1,5 @@
 -- QUESTION SEVEN. Only states and cites.
-use Prim.Native.Nat.{ℕ, _<_}
+use Prim.Native.Nat.{ℕ}
 use mathlib.Core.Path.{sym, ap, subst}
 use mathlib.Core.List.{List}
 use lib.ListN.{getD}

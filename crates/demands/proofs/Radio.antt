@@ -1,11 +1,10 @@
 -- A history as the world of `cut` sees it, and what holds of it between two calls.
 use Prim.Native.Nat.{ℕ, _+_, _-_, _≤_, _<_}
-use native.Mathlib.Omega.{arith}
-use mathlib.Core.Path.{_≡_, refl, sym, _∙_, ap, subst}
+use mathlib.Core.Path.{_≡_, refl}
 use mathlib.Core.Bool.{Bool, true, false, cond}
 use borrow.Author.Tests.{lt-ltb, ltb-true}
 use lib.Dec.{ltb}
-use mathlib.Core.List.{List, [], _∷_, _++_, map, List·Memᴰ, List·Memᴰ·head, List·Memᴰ·tail}
+use mathlib.Core.List.{List, [], _∷_, _++_, map, List·Memᴰ}
 use mathlib.Core.Option.{Option, none, some}
 use lib.ListN.{length, getD}
 use Rattle.masks.specs.Sets.{has}
@@ -13,17 +12,17 @@ use Rattle.rules.specs.declared.Hold.the-variants as hold
 use Rattle.rules.specs.declared.State as rules
 use Rattle.rules.specs.declared.State.the-variants as state
 use Rattle.rules.specs.declared.Slot.{Slot}
-use Rattle.rules.specs.Sizes.{blocks, blockBytes, imageBytes, slots, roomStart, roomBytes}
+use Rattle.rules.specs.Sizes.{imageBytes, slots, roomStart, roomBytes}
 use Rattle.rules.specs.Slots.{roomOf}
-use Rattle.rules.specs.Table.{Table, slotAt, Sound}
+use Rattle.rules.specs.Table.{slotAt, Sound}
 use Rattle.rules.specs.Create.{isIn}
-use Rattle.cut.specs.Changes.{Store, Change}
+use Rattle.cut.specs.Changes.{Change}
 use Rattle.cut.specs.World.{World, State, waiting, inFlight, committed}
 use Rattle.cut.proofs.Invariant.{Invariant}
 use Rattle.demands.specs.History.{History, Accepted, Sent}
 use Rattle.demands.specs.Demand3.{written, sentIn, timesSent}
 use Rattle.demands.proofs.Views.{view, Within}
-use Rattle.demands.proofs.Notes.{Whole, AllWhole}
+use Rattle.demands.proofs.Notes.{AllWhole}
 use Rattle.demands.proofs.Lookup.{carries, slotOf}
 
 -- where a patch is, by its slot's state; a free slot's patch has committed

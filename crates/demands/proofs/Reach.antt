@@ -3,25 +3,22 @@ use Prim.Native.Nat.{ℕ, _+_, _-_, _≤_, _<_}
 use native.Mathlib.Omega.{arith}
 use native.Mathlib.Decide.{ℕ-discrete, decLt}
 use mathlib.Core.Path.{_≡_, refl, sym, _∙_, ap, subst}
-use mathlib.Core.Bool.{Bool, true, false, cond, _&&_}
-use mathlib.Core.List.{List, [], _∷_, _++_, List·Memᴰ, List·Memᴰ·head, List·Memᴰ·tail, List·Memᴰ·not-nil}
+use mathlib.Core.Bool.{Bool, true, false, cond}
+use mathlib.Core.List.{List, [], _∷_, List·Memᴰ, List·Memᴰ·head, List·Memᴰ·tail, List·Memᴰ·not-nil}
 use mathlib.Core.Logic.{_⊎_, inl, inr, ⊎-elim}
-use mathlib.Core.Option.{Option, none, some}
 use borrow.Author.Tests.{leb-true, ltb-true, le-leb, lt-ltb}
-use lib.Dec.{leb, ltb}
+use lib.Dec.{leb}
 use lib.ListN.{length, getD, drop, length-take}
 use Rattle.masks.proofs.Decided.{clash, and-true, true-and, true-or-false}
-use Rattle.spans.specs.Spans.{splice, part}
-use Rattle.spans.proofs.Laws.{length-splice, splice-in, splice-below, splice-above, length-part}
+use Rattle.spans.specs.Spans.{splice}
+use Rattle.spans.proofs.Laws.{length-splice, splice-in, splice-below, splice-above}
 use Rattle.rules.specs.declared.Hold.{Hold}
 use Rattle.rules.specs.declared.Hold.the-variants as hold
-use Rattle.rules.specs.Sizes.{imageBytes, undoBytes, roomStart}
+use Rattle.rules.specs.Sizes.{roomStart}
 use Rattle.rules.specs.Table.{Table}
 use Rattle.rules.specs.Create.{Change, place, changed, kept, oldBytes}
-use Rattle.rules.specs.Refusals.{First, createCases}
-use Rattle.rules.specs.Calls.{Creation, Creates, createGranted, createNumber, hardOrSoft, Writing, Writes, writeNumber}
-use Rattle.rules.proofs.Cases.{passed}
-use Rattle.demands.specs.History.{History, Accepted}
+use Rattle.rules.specs.Calls.{Creation, Creates, createGranted, createNumber, Writing, Writes, writeNumber}
+use Rattle.demands.specs.History.{Accepted}
 use Rattle.demands.specs.Demand3.{carriedOut}
 use Rattle.demands.specs.QuestionSeven.{SameBut, CreateReaches, names, Holds}
 use Rattle.demands.proofs.Safe.{length-carried}

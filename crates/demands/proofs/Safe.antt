@@ -3,26 +3,24 @@ use Prim.Native.Nat.{ℕ, _+_, _<_}
 use native.Mathlib.Omega.{arith}
 use mathlib.Core.Path.{_≡_, refl, sym, _∙_, ap, ap₂, subst}
 use mathlib.Core.Bool.{Bool, true, false, cond, _&&_, _||_}
-use mathlib.Core.List.{List, [], _∷_, _++_, map, List·Memᴰ, List·Memᴰ·head, List·Memᴰ·tail}
-use mathlib.Core.Logic.{_≢_, _⊎_, inl, inr, ⊎-elim}
+use mathlib.Core.List.{List, [], _∷_, map, List·Memᴰ, List·Memᴰ·head, List·Memᴰ·tail}
 use lib.ListN.{length}
 use Rattle.spans.proofs.Laws.{length-splice}
 use Rattle.rules.specs.Sizes.{imageBytes}
-use Rattle.rules.specs.Create.{changed, isIn}
-use Rattle.cut.specs.Changes as cut
-use Rattle.cut.specs.Changes.{Store, Change, after, only, carryOut, Earlier}
+use Rattle.rules.specs.Create.{changed}
+use Rattle.cut.specs.Changes.{Change, after, only, Earlier}
 use Rattle.cut.specs.World as world
 use Rattle.cut.specs.World.{State, waiting, inFlight, committed}
 use Rattle.cut.specs.Cut as cutting
 use Rattle.cut.specs.Cut.{afterCut, reached, landed}
-use Rattle.cut.proofs.Facts.{carry-same, same-or-other}
+use Rattle.cut.proofs.Facts.{carry-same}
 use Rattle.cut.proofs.Core.{cut-safe}
-use Rattle.demands.specs.History.{History, Accepted, Sent, those}
-use Rattle.demands.specs.Demand3.{written, onStore, storeAfterCut, sentIn, hasLanded, carriedOut, AskedFor, Follows, CutSafe}
+use Rattle.demands.specs.History.{History, Accepted, those}
+use Rattle.demands.specs.Demand3.{onStore, storeAfterCut, sentIn, hasLanded, carriedOut, AskedFor, Follows, CutSafe}
 use Rattle.demands.proofs.Views.{view, view-splice, view-same, Within}
 use Rattle.demands.proofs.Notes.{length-written, some-written, sent-in-both, sent-in-those, mem-left}
 use Rattle.demands.proofs.Lookup.{slotOf}
-use Rattle.demands.proofs.Radio.{stateAt, plain, Names, Numbered, isDone, isOut, Good}
+use Rattle.demands.proofs.Radio.{stateAt, plain, Numbered, isDone, isOut, Good}
 use Rattle.demands.proofs.Radio as radio
 use Rattle.demands.proofs.Numbers.{number-below, sent-to}
 

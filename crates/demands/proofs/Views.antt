@@ -1,21 +1,20 @@
 -- Lists of 16,384 bytes, seen block by block and place by place: what the world of `cut` speaks of.
-use Prim.Native.Nat.{ℕ, zero, suc, _+_, _-_, _*_, _/_, _%_, _≤_, _<_}
-use native.Mathlib.Nat.{add-zero}
+use Prim.Native.Nat.{ℕ, _+_, _-_, _/_, _%_, _≤_, _<_}
 use native.Mathlib.Omega.{arith}
 use native.Mathlib.Decide.{decLt}
-use mathlib.Core.Path.{_≡_, refl, sym, _∙_, ap, subst}
+use mathlib.Core.Path.{_≡_, refl, sym, _∙_, ap}
 use mathlib.Core.Bool.{Bool, true, false, cond, _&&_, and-false}
-use mathlib.Core.List.{List, [], _∷_, _++_}
+use mathlib.Core.List.{List}
 use mathlib.Core.Logic.{_⊎_, inl, inr}
 use borrow.Author.Tests.{lt-ltb, le-ltb, le-leb, eq-eqb, eqb-true, leb-true, ltb-true}
 use lib.Dec.{eqb, leb, ltb}
 use lib.ListN.{length, getD}
 use lib.Seq.{ext-getD}
-use Rattle.masks.proofs.Decided.{clash, and-true, true-and, true-or-false}
+use Rattle.masks.proofs.Decided.{clash, and-true, true-and}
 use Rattle.spans.specs.Spans.{splice}
-use Rattle.spans.proofs.Laws.{length-splice, splice-in, splice-below, splice-above}
+use Rattle.spans.proofs.Laws.{splice-in, splice-below, splice-above}
 use Rattle.rules.specs.Sizes.{imageBytes, blockBytes, blocks, blockStart}
-use Rattle.cut.specs.Changes.{Store, Change, covers, byteOf, carryOut}
+use Rattle.cut.specs.Changes.{Store, Change, covers, carryOut}
 use Rattle.cut.proofs.Facts.{carry-inside, carry-outside}
 
 -- the bytes of an image, by block and place; past its edge nothing is seen

@@ -4,40 +4,40 @@ use native.Mathlib.Omega.{arith}
 use native.Mathlib.Nat.{sub-zero}
 use native.Mathlib.Decide.{decLt}
 use mathlib.Core.Path.{_≡_, refl, sym, _∙_, ap, ap₂, subst}
-use mathlib.Core.Bool.{Bool, true, false, cond, _&&_, _||_, not}
+use mathlib.Core.Bool.{Bool, true, false, cond, _||_, not}
 use mathlib.Core.List.{List, [], _∷_, _++_, map, List·Memᴰ, List·Memᴰ·head, List·Memᴰ·tail}
 use mathlib.Core.Option.{Option, none, some}
 use mathlib.Core.Logic.{_≢_, _⊎_, inl, inr, ⊎-elim}
-use borrow.Author.Tests.{eq-eqb, ne-eqb, eqb-true, not-true}
+use borrow.Author.Tests.{eq-eqb, eqb-true, not-true}
 use lib.Dec.{eqb}
 use lib.ListN.{length, getD}
 use Rattle.masks.specs.Sets.{has}
 use Rattle.masks.proofs.Laws.{has-slot}
 use Rattle.masks.proofs.Decided.{clash, and-true, true-and, true-or-false, or-true, true-or-l, true-or-r, same-bool}
 use Rattle.spans.specs.Spans.{splice, part}
-use Rattle.spans.proofs.Laws.{length-splice, splice-in, splice-below, splice-above, length-part, part-in}
+use Rattle.spans.proofs.Laws.{splice-in, splice-below, splice-above, length-part, part-in}
 use Rattle.rules.specs.declared.Hold.the-variants as hold
 use Rattle.rules.specs.declared.State as rules
 use Rattle.rules.specs.declared.State.the-variants as state
 use Rattle.rules.specs.declared.Slot.{Slot}
-use Rattle.rules.specs.Sizes.{blocks, blockBytes, blockStart, imageBytes, undoBytes, slots, rooms, roomStart}
+use Rattle.rules.specs.Sizes.{blocks, blockBytes, blockStart, undoBytes, slots, rooms, roomStart}
 use Rattle.rules.specs.Slots.{isUsed, isWaiting, isInFlight, isHard, roomOf, withState}
-use Rattle.rules.specs.Table.{Table, slotAt, used, waitsOn, fliesOn, hardOn, HasRoom, Sound}
+use Rattle.rules.specs.Table.{slotAt, used, waitsOn, fliesOn, Sound}
 use Rattle.rules.specs.Create.{isIn}
-use Rattle.rules.specs.Write.{MayGo, Largest, leftBehind, takenBack, backNumber, backDown, handedOut, sentState, sentSlots, sent}
+use Rattle.rules.specs.Write.{MayGo, leftBehind, takenBack, backNumber, backDown, handedOut, sentState, sentSlots, sent}
 use Rattle.rules.proofs.SlotsBy.{slot-by}
 use Rattle.rules.proofs.StaysSound.{sent-sound}
 use Rattle.rules.proofs.TakenBack.{number-nowhere, number-there}
 use Rattle.rules.proofs.Pins.{length-back-number, length-handed-out}
-use Rattle.cut.specs.Changes.{Store, Change, covers, carryOut, Earlier}
+use Rattle.cut.specs.Changes.{Store, Change, covers}
 use Rattle.cut.specs.World as cut
-use Rattle.cut.specs.World.{World, State, waiting, inFlight, committed, left, putBack, takeBack, Sends, Step}
-use Rattle.cut.proofs.Facts.{newer-in, older-in, same-or-other, carry-inside, carry-outside}
+use Rattle.cut.specs.World.{State, waiting, inFlight, committed, left, putBack, takeBack, Sends, Step}
+use Rattle.cut.proofs.Facts.{same-or-other, carry-inside, carry-outside}
 use Rattle.cut.proofs.Invariant.{waits-not-done}
 use Rattle.cut.proofs.Core.{step-keeps}
 use Rattle.demands.specs.History.{History, Accepted, Sent, numbersBelow}
 use Rattle.demands.specs.Demand3.{written, sentIn, timesIn, timesSent}
-use Rattle.demands.proofs.Views.{view, view-in, view-past, Within, covers-of, inside-of}
+use Rattle.demands.proofs.Views.{view, view-in, view-past, covers-of, inside-of}
 use Rattle.demands.proofs.Notes.{Whole, whole, view-written, not-in-none, not-sent-none, times-both}
 use Rattle.demands.proofs.Lookup.{carries, slotOf, carries-used, carries-number, carries-of, at-slot, slot-carries, slot-same, nowhere}
 use Rattle.demands.proofs.Radio.{stateWord, isSoft, stateAt, softAt, roomAt, Tied, plain, roomByte, room-byte, oldByte, world, Same, Numbered, isDone, isOut, Good}

@@ -7,7 +7,7 @@ use lib.Dec.{eqb}
 use Rattle.spans.specs.Spans.{splice}
 use Rattle.rules.specs.declared.AskAnswer.the-variants as ask
 use Rattle.rules.specs.Sizes.{blockStart}
-use Rattle.rules.specs.Create.{Change, isIn, changed}
+use Rattle.rules.specs.Create.{isIn, changed}
 use Rattle.rules.specs.Calls.{Writing, Writes, writeNumber, Asks}
 use Rattle.demands.specs.History.{History, Accepted, Sent, those}
 

@@ -1,7 +1,7 @@
 -- A set of slots is a number below 2 ^ 64: slot i is in it where its binary digit i is 1.
 use Prim.Native.Nat.{ℕ, zero, suc, _+_, _/_, _%_, _^_}
 use mathlib.Core.Path.{_≡_}
-use mathlib.Core.Bool.{Bool, true, false, cond}
+use mathlib.Core.Bool.{Bool, true, cond}
 use lib.Dec.{eqb}
 
 -- the binary digit i of m

@@ -1,16 +1,16 @@
 -- Tests that compute, each shown to decide a word of the rules: what the worked rows are shown with. Nothing that is promised rests on them.
-use Prim.Native.Nat.{ℕ, zero, suc, _+_, _<_, _≤_, _^_}
+use Prim.Native.Nat.{ℕ, zero, suc, _<_, _^_}
 use mathlib.Core.Path.{_≡_, refl, sym, ap, subst, _∙_}
 use mathlib.Core.Bool.{Bool, true, false, cond, _&&_, _||_, not}
 use mathlib.Core.List.{List, [], _∷_}
-use mathlib.Core.Logic.{_⊎_, inl, inr, ⊎-elim}
+use mathlib.Core.Logic.{_⊎_, ⊎-elim}
 use native.Mathlib.Omega.{arith}
 use native.Mathlib.Decide.{ℕ-discrete}
-use borrow.Author.Tests.{eq-eqb, ne-eqb, eqb-true, leb-true, ltb-true, not-true}
+use borrow.Author.Tests.{eq-eqb, eqb-true, leb-true, ltb-true, not-true}
 use lib.Dec.{eqb, leb, ltb}
 use Rattle.masks.specs.Sets.{has, setOf, Sub}
 use Rattle.masks.proofs.Laws.{has-set, has-slot, has-none, set-lt}
-use Rattle.masks.proofs.Decided.{clash, true-or-false, and-true, true-and, or-true}
+use Rattle.masks.proofs.Decided.{clash, and-true, true-and, or-true}
 use Rattle.rules.specs.declared.Hold.the-variants as hold
 use Rattle.rules.specs.declared.State.{State}
 use Rattle.rules.specs.declared.State.the-variants as state

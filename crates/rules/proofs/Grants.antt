@@ -1,11 +1,10 @@
 -- Any two grants of a call are equal: the lowest slot, hard or soft, the largest set and the state of a number are each one.
 use Prim.Native.Nat.{ℕ}
 use mathlib.Core.Path.{_≡_, refl, sym, ap, ap₂, subst, _∙_}
-use mathlib.Core.Bool.{Bool, true, false}
-use mathlib.Core.List.{List, [], _∷_}
+use mathlib.Core.Bool.{true}
+use mathlib.Core.List.{List}
 use native.Mathlib.Omega.{arith}
 use Rattle.masks.proofs.Decided.{clash}
-use Rattle.rules.specs.declared.Hold.{Hold}
 use Rattle.rules.specs.declared.State.{State}
 use Rattle.rules.specs.declared.State.the-variants as state
 use Rattle.rules.specs.declared.AskAnswer.{AskAnswer}
@@ -13,7 +12,7 @@ use Rattle.rules.specs.Slots.{isWaiting, isInFlight}
 use Rattle.rules.specs.Table.{Table, slotAt, Sound, InSlot}
 use Rattle.rules.specs.Create.{Change}
 use Rattle.rules.specs.Ask.{Asked}
-use Rattle.rules.specs.Refusals.{First, Unsound, askCases}
+use Rattle.rules.specs.Refusals.{First, askCases}
 use Rattle.rules.specs.Calls.{Creation, createGranted, Accepts, Writing, writeGranted, Sends}
 use Rattle.rules.proofs.Cases.{passed}
 use Rattle.rules.proofs.Lowest.{lowest-one, hold-one}

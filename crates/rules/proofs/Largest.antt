@@ -1,10 +1,10 @@
 -- Subsets that may go are closed under union, so there is one largest.
 use Prim.Native.Nat.{ℕ, _<_}
-use mathlib.Core.Path.{_≡_, refl, sym, _∙_}
-use mathlib.Core.Bool.{Bool, true, false, _||_}
+use mathlib.Core.Path.{_≡_, sym, _∙_}
+use mathlib.Core.Bool.{true, _||_}
 use mathlib.Core.List.{List}
 use mathlib.Core.Logic.{_⊎_, inl, inr, ⊎-elim}
-use Rattle.masks.specs.Sets.{has, setOf, Sub}
+use Rattle.masks.specs.Sets.{has, setOf}
 use Rattle.masks.proofs.Laws.{has-set, has-slot, set-lt, same-sub}
 use Rattle.masks.proofs.Decided.{or-true, true-or-l, true-or-r}
 use Rattle.rules.specs.declared.Slot.{Slot}

@@ -1,7 +1,7 @@
 -- An outcome is shown by its first case and, granted, by what the call does; and any two outcomes are equal where any two grants are.
 use Prim.Native.Nat.{ℕ}
-use mathlib.Core.Path.{_≡_, refl, sym, ap, subst, _∙_}
-use mathlib.Core.List.{List, [], _∷_}
+use mathlib.Core.Path.{_≡_, sym, ap, subst, _∙_}
+use mathlib.Core.List.{List}
 use native.Mathlib.Decide.{ℕ-discrete}
 use Rattle.rules.specs.Refusals.{Case, First}
 use Rattle.rules.specs.Calls.{Outcome}

@@ -1,5 +1,4 @@
 -- What a refusal says: no number, no word on hard or soft, an empty set, count 0.
-use Prim.Native.Nat.{ℕ}
 use mathlib.Core.Path.{_≡_, refl}
 use mathlib.Core.Option.{none}
 use Rattle.rules.specs.declared.CreateAnswer.{CreateAnswer}

@@ -1,27 +1,22 @@
 -- The worked session, row by row: each call on what the row before left, its tests computed. The theorem stands in Rows.antt.
 use Prim.Native.Nat.{ℕ}
-use mathlib.Core.Path.{_≡_, refl}
-use mathlib.Core.Bool.{true, false}
+use mathlib.Core.Path.{refl}
 use mathlib.Core.List.{List, [], _∷_}
-use mathlib.Core.Logic.{⊎-elim}
 use native.Mathlib.Omega.{arith}
 use lib.ListN.{replicate, length-replicate}
 use Rattle.masks.specs.Sets.{bit, has, setBelow}
 use Rattle.spans.specs.Spans.{splice}
 use Rattle.rules.specs.declared.Hold.the-variants as hold
-use Rattle.rules.specs.declared.State.the-variants as state
-use Rattle.rules.specs.Sizes.{imageBytes, undoBytes, blockBytes, slots, rooms}
-use Rattle.rules.specs.Table.{slotsFrom, slotAt, HasRoom}
+use Rattle.rules.specs.Sizes.{imageBytes, undoBytes, blockBytes, slots}
+use Rattle.rules.specs.Table.{slotsFrom}
 use Rattle.rules.specs.Open.{opened}
-use Rattle.rules.specs.Create.{Change, Lowest, isIn, befores, patch, acceptedSlots, accepted, changed, kept, HoldOf, FreeRoom}
+use Rattle.rules.specs.Create.{Change, isIn, befores, patch, acceptedSlots, accepted, changed, kept, HoldOf}
 use Rattle.rules.specs.Write.{takenBack, backNumber, backDown, handedOut, sentSlots, sent}
 use Rattle.rules.specs.Complete.{completedSlots, completed}
-use Rattle.rules.specs.Calls.{Opening, Opens, openGranted, createGranted, writeGranted, writeRefused, completeGranted}
+use Rattle.rules.specs.Calls.{createGranted, writeGranted, completeGranted}
 use Rattle.rules.specs.Rows.{Radio, Runs, rowsP1toP10}
-use Rattle.rules.proofs.Cases.{passes, none-holds}
-use Rattle.rules.proofs.Outcomes.{grants}
 use Rattle.rules.proofs.StaysSound.{opened-sound}
-use Rattle.rules.proofs.Computed.{passesBelow, passes-at, allIssued, lowest-free, hardTest, hard-tested, held-back, room-free, clearIn, hardsStay, round, rounds}
+use Rattle.rules.proofs.Computed.{passesBelow, allIssued, lowest-free, hardTest, hard-tested, held-back, room-free, clearIn, hardsStay, round, rounds}
 use Rattle.rules.proofs.Steps.{Good, Made, Went, Done, Stayed, afterCreate, afterWrite, afterComplete, inBounds, create-row, write-flies, write-none, write-row, complete-row}
 
 abbrev lent : List ℕ

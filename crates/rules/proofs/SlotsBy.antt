@@ -1,9 +1,9 @@
 -- The slots that a definition gives one by one: reading one, and when a list of 64 is that list.
 use Prim.Native.Nat.{ℕ, zero, suc, _+_, _<_}
 use mathlib.Core.Path.{_≡_, refl, sym, ap, _∙_}
-use mathlib.Core.List.{List, [], _∷_}
+use mathlib.Core.List.{List}
 use native.Mathlib.Omega.{arith}
-use native.Mathlib.Nat.{add-zero, add-suc, suc-add, zero-add}
+use native.Mathlib.Nat.{add-zero, zero-add}
 use lib.ListN.{length, getD}
 use lib.Seq.{ext-getD}
 use Rattle.rules.specs.declared.Slot.{Slot}

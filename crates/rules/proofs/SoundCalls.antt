@@ -1,17 +1,16 @@
 -- A SOUND TABLE STAYS SOUND: whatever a call answers, the table that it returns is sound if the table passed was; an opened one always is.
-use Prim.Native.Nat.{ℕ, _≤_, _<_}
-use mathlib.Core.Path.{_≡_, refl, sym, ap, subst, _∙_}
+use Prim.Native.Nat.{ℕ, _<_}
+use mathlib.Core.Path.{_≡_, sym, subst}
 use mathlib.Core.List.{List}
 use mathlib.Core.Logic.{inl, inr}
 use native.Mathlib.Omega.{arith}
 use native.Mathlib.Decide.{ℕ-discrete}
 use lib.ListN.{length}
-use Rattle.rules.specs.declared.Slot.{Slot}
 use Rattle.rules.specs.Sizes.{lastNumber}
 use Rattle.rules.specs.Table.{Table, Sound}
 use Rattle.rules.specs.Create.{Change}
 use Rattle.rules.specs.Refusals.{First, openCases, createCases}
-use Rattle.rules.specs.Calls.{Outcome, Opening, Opens, Creation, Creates, Accepts, Writing, Writes, Completion, Completes, plainNumber, createNumber, writeNumber}
+use Rattle.rules.specs.Calls.{Opening, Opens, Creation, Creates, Writing, Writes, Completion, Completes, plainNumber, createNumber, writeNumber}
 use Rattle.rules.proofs.Cases.{passed}
 use Rattle.rules.proofs.StaysSound.{Valid, opened-sound, accepted-sound, sent-sound, completed-sound}
 

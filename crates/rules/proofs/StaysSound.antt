@@ -6,7 +6,7 @@ use mathlib.Core.List.{List}
 use mathlib.Core.Logic.{_⊎_, inl, inr, ⊎-elim}
 use native.Mathlib.Omega.{arith}
 use native.Mathlib.Decide.{ℕ-discrete}
-use borrow.Author.Tests.{eq-eqb, ne-eqb, eqb-true, not-true}
+use borrow.Author.Tests.{eq-eqb, ne-eqb, not-true}
 use lib.Dec.{eqb}
 use lib.ListN.{length}
 use Rattle.masks.specs.Sets.{has, setOf, Sub}
@@ -21,7 +21,7 @@ use Rattle.rules.specs.Sizes.{blocks, blockBytes, rooms, slots, mostByte
 use Rattle.rules.specs.Slots.{isUsed, freeSlot, withState, withBefores}
 use Rattle.rules.specs.Table.{Table, slotAt, slotsBy, withSlots, withNext, used, fliesOn, HasRoom, Sound}
 use Rattle.rules.specs.Open.{opened}
-use Rattle.rules.specs.Create.{Change, Lowest, FreeSlot, FreeRoom, WouldBeHard, HoldOf, isNamed, overlaps, befores, patch, turned, turnedState, acceptedSlots, accepted}
+use Rattle.rules.specs.Create.{Change, Lowest, FreeSlot, FreeRoom, HoldOf, isNamed, overlaps, befores, patch, turned, turnedState, acceptedSlots, accepted}
 use Rattle.rules.specs.Write.{sentState, sentSlots, sent}
 use Rattle.rules.specs.Complete.{remaining, completedSlots, completed}
 use Rattle.rules.proofs.SlotsBy.{slot-by}

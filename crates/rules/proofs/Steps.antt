@@ -1,15 +1,15 @@
 -- A call on concrete tables, from tests that compute: what each row of the worked session is shown with.
 use Prim.Native.Nat.{ℕ, _+_, _<_, _≤_, _^_}
-use mathlib.Core.Path.{_≡_, refl, sym, ap, subst, _∙_}
+use mathlib.Core.Path.{_≡_, refl, sym, subst, _∙_}
 use mathlib.Core.Bool.{Bool, true, false, _&&_, not}
-use mathlib.Core.List.{List, [], _∷_}
+use mathlib.Core.List.{List}
 use mathlib.Core.Logic.{_⊎_, inl, inr, ⊎-elim}
 use native.Mathlib.Omega.{arith}
 use borrow.Author.Tests.{leb-true, ltb-true, not-true}
 use lib.Dec.{leb, ltb}
 use lib.ListN.{length}
 use Rattle.masks.specs.Sets.{has}
-use Rattle.masks.proofs.Laws.{has-none, no-member, a-member, has-slot}
+use Rattle.masks.proofs.Laws.{has-none, no-member, has-slot}
 use Rattle.masks.proofs.Decided.{clash, and-true, true-or-false}
 use Rattle.spans.proofs.Laws.{length-splice}
 use Rattle.rules.specs.declared.Hold.{Hold}
@@ -18,9 +18,9 @@ use Rattle.rules.specs.declared.Slot.{Slot}
 use Rattle.rules.specs.Sizes.{blocks, blockBytes, imageBytes, undoBytes, slots, mostBytes, mostNamed, lastNumber}
 use Rattle.rules.specs.Table.{Table, slotAt, fliesOn, waitsOn, Sound}
 use Rattle.rules.specs.Create.{Change, Lowest, FreeSlot, HoldOf, changed, kept}
-use Rattle.rules.specs.Write.{MayGo, Largest}
-use Rattle.rules.specs.Refusals.{First, NoRoom, createCases, writeCases, completeCases}
-use Rattle.rules.specs.Calls.{Opens, openGranted, Creation, Creates, createGranted, createRefused, Writing, Writes, writeGranted, writeRefused, Completion, Completes, completeGranted}
+use Rattle.rules.specs.Write.{Largest}
+use Rattle.rules.specs.Refusals.{NoRoom}
+use Rattle.rules.specs.Calls.{Opens, openGranted, Creation, Creates, createGranted, Writing, Writes, writeGranted, writeRefused, Completion, Completes, completeGranted}
 use Rattle.rules.specs.Rows.{Radio}
 use Rattle.rules.proofs.Cases.{holds, passes, none-holds}
 use Rattle.rules.proofs.Outcomes.{refuses, grants}

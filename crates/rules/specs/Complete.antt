@@ -1,12 +1,10 @@
 -- Document 01, "Complete".
 use Prim.Native.Nat.{ℕ}
-use mathlib.Core.Bool.{Bool, cond, _&&_, not}
+use mathlib.Core.Bool.{cond, _&&_, not}
 use mathlib.Core.List.{List}
 use Rattle.masks.specs.Sets.{has, setOf}
-use Rattle.rules.specs.declared.State.{State}
-use Rattle.rules.specs.declared.State.the-variants as state
 use Rattle.rules.specs.declared.Slot.{Slot}
-use Rattle.rules.specs.Slots.{isUsed, freeSlot, withBefores}
+use Rattle.rules.specs.Slots.{freeSlot, withBefores}
 use Rattle.rules.specs.Table.{Table, slotAt, used, fliesOn, slotsBy, withSlots}
 
 -- the befores of slot i without the patches of block b that commit

@@ -1,7 +1,7 @@
 -- Document 01, "Create".
-use Prim.Native.Nat.{ℕ, suc, _+_, _<_, min, max}
+use Prim.Native.Nat.{ℕ, _+_, _<_, min, max}
 use mathlib.Core.Path.{_≡_}
-use mathlib.Core.Bool.{Bool, true, false, cond, _&&_, _||_, not}
+use mathlib.Core.Bool.{Bool, false, cond, _&&_, _||_, not}
 use mathlib.Core.List.{List, [], _∷_}
 use lib.Dec.{eqb, ltb}
 use lib.ListN.{length}
@@ -13,8 +13,8 @@ use Rattle.rules.specs.declared.State.{State}
 use Rattle.rules.specs.declared.State.the-variants as state
 use Rattle.rules.specs.declared.Slot.{Slot}
 use Rattle.rules.specs.Sizes.{slots, rooms, blockStart, roomStart}
-use Rattle.rules.specs.Slots.{isWaiting, withState}
-use Rattle.rules.specs.Table.{Table, slotAt, used, waits, waitsOn, HasRoom, slotsBy, withSlots, withNext}
+use Rattle.rules.specs.Slots.{withState}
+use Rattle.rules.specs.Table.{Table, slotAt, used, waitsOn, HasRoom, slotsBy, withSlots, withNext}
 
 -- create takes block, offset, data and named numbers
 pub record Change : Type 0 where

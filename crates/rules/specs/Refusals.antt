@@ -1,14 +1,13 @@
 -- Document 01, "Refusal numbers and their order": a call tests in rising number, among those listed for it, and answers the first that holds.
 use Prim.Native.Nat.{ℕ, _+_, _<_, _≤_}
 use mathlib.Core.Path.{_≡_}
-use mathlib.Core.Bool.{true, false}
+use mathlib.Core.Bool.{true}
 use mathlib.Core.List.{List, [], _∷_}
 use mathlib.Core.Logic.{_⊎_}
 use lib.ListN.{length}
-use Rattle.masks.specs.Sets.{has}
 use Rattle.rules.specs.declared.Slot.{Slot}
 use Rattle.rules.specs.Sizes.{blocks, blockBytes, imageBytes, undoBytes, rooms, slots, mostBytes, mostNamed, lastNumber}
-use Rattle.rules.specs.Table.{Table, used, waitsOn, fliesOn, Sound, Issued}
+use Rattle.rules.specs.Table.{Table, waitsOn, fliesOn, Sound, Issued}
 use Rattle.rules.specs.Create.{Change, isIn, WouldBeHard, FreeSlot, FreeRoom}
 use Rattle.rules.specs.Write.{MayGo}
 

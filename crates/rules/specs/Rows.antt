@@ -1,6 +1,5 @@
 -- Document 01, "A session of two pages": rows P1 to P10 as one table, and what it is for the definitions to run a table of rows.
 use Prim.Native.Nat.{ℕ}
-use mathlib.Core.Path.{_≡_}
 use mathlib.Core.List.{List, [], _∷_, _++_}
 use lib.ListN.{replicate}
 use Rattle.rules.specs.declared.Hold.the-variants as hold
@@ -12,7 +11,6 @@ use Rattle.rules.specs.declared.Answer.{Answer}
 use Rattle.rules.specs.declared.Answer.the-variants as answer
 use Rattle.rules.specs.Sizes.{imageBytes, undoBytes, blockBytes}
 use Rattle.rules.specs.Table.{Table}
-use Rattle.rules.specs.Open.{opened}
 use Rattle.rules.specs.Create.{Change}
 use Rattle.rules.specs.Calls.{Opening, Opens, Creation, Creates, Writing, Writes, Completion, Completes}
 

@@ -1,5 +1,5 @@
 -- Document 01, "Sizes".
-use Prim.Native.Nat.{ℕ, _*_, _+_}
+use Prim.Native.Nat.{ℕ, _*_}
 
 -- blocks, numbered 0 to 63, of 256 bytes each
 abbrev pub blocks : ℕ

@@ -1,5 +1,5 @@
 -- `masks::with_if` meets its contract: by cases of `goes`. Assumes nothing.
-use mathlib.Core.Path.{sym, _∙_}
+use mathlib.Core.Path.{sym}
 use borrow.Author.Needs.{needs}
 use Rattle.masks.proofs.Laws.{with-none}
 use Rattle.masks.proofs.with_if.Statement.{statement}

@@ -1,5 +1,5 @@
 -- `accept::hold::hold_for` meets its contract: each answer is a case of Held. Assumes nothing.
-use Prim.Native.Nat.{ℕ, _<_}
+use Prim.Native.Nat.{ℕ}
 use mathlib.Core.Path.{_≡_}
 use mathlib.Core.Bool.{false}
 use mathlib.Core.List.{List}

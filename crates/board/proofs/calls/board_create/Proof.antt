@@ -1,7 +1,5 @@
 -- `calls::board_create` meets its contract. Assumes nothing.
-use Prim.Native.Nat.{ℕ}
-use mathlib.Core.Path.{_≡_, refl}
-use mathlib.Core.List.{List}
+use mathlib.Core.Path.{_≡_}
 use mathlib.Core.Logic.{inl, inr, ⊎-elim}
 use denote.Ref.{now}
 use Rattle.masks.proofs.Decided.{yes-not, no-not}

@@ -1,10 +1,8 @@
 -- `read::is_table` meets its contract: the tags that were passed are at most 4. Assumes nothing.
 use Prim.Native.Nat.{ℕ, _≤_, _<_, _-_}
-use mathlib.Core.Path.{_≡_}
 use native.Mathlib.Omega.{arith}
 use borrow.Author.Count.{below-more}
-use denote.Ref.{now}
-use Rattle.board.specs.Layout.{numberAt, slotStart, IsTable}
+use Rattle.board.specs.Layout.{numberAt, slotStart}
 use borrow.Author.Needs.{needs}
 use Rattle.board.proofs.read.is_table.Statement.{statement}
 use Rattle.board.proofs.read.is_table.Tie as tie

@@ -1,8 +1,7 @@
 -- `read::slots_in` meets its contract: a walk that sets each slot to what its bytes mean. Assumes nothing.
-use Prim.Native.Nat.{ℕ, _≤_, _-_}
-use mathlib.Core.Path.{_≡_, refl}
+use Prim.Native.Nat.{_≤_, _-_}
+use mathlib.Core.Path.{refl}
 use native.Mathlib.Omega.{arith}
-use Rattle.rules.specs.Table.{slotsBy}
 use Rattle.moves.proofs.Walked.{Walked, walk-starts, walk-goes-on, walk-ends}
 use Rattle.board.specs.Layout.{slotIn, slotStart, tableIn}
 use borrow.Author.Needs.{needs}

@@ -7,7 +7,6 @@ use lib.ListN.{length, take, length-map}
 use lib.Seq.{take-all, length-take-le}
 use denote.Ref.{now}
 use borrow.Author.Needs.{needs}
-use Rattle.rules.specs.declared.Slot.{Slot}
 use Rattle.rules.specs.Table.{slotAt}
 use Rattle.spans.specs.Spans.{splice}
 use Rattle.spans.proofs.Laws.{length-splice, splice-none, splice-whole}

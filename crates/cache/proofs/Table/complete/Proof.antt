@@ -1,6 +1,6 @@
 -- `Table::complete` meets its contract. Assumes nothing.
 use Prim.Native.Nat.{_<_}
-use mathlib.Core.Path.{_≡_, sym, ap, subst, _∙_}
+use mathlib.Core.Path.{sym, ap, subst, _∙_}
 use mathlib.Core.List.{List}
 use native.Mathlib.Omega.{arith}
 use borrow.Author.Needs.{needs}

@@ -1,17 +1,15 @@
 -- `Table::create` meets its contract: what is judged early, the lowest slot, hard or soft with its room, and the patch, the image and the undo area that are made. Assumes nothing.
-use Prim.Native.Nat.{ℕ, _+_, _*_, _<_}
+use Prim.Native.Nat.{ℕ}
 use mathlib.Core.Path.{_≡_, sym, ap, subst, _∙_}
 use mathlib.Core.Bool.{false}
 use mathlib.Core.List.{List}
 use native.Mathlib.Omega.{arith}
 use borrow.Author.Needs.{needs}
 use denote.Ref.{now}
-use lib.ListN.{length}
 use Rattle.masks.specs.Sets.{has, setOf}
 use Rattle.masks.proofs.Decided.{said-yes}
 use Rattle.masks.proofs.Laws.{has-of}
 use Rattle.rules.specs.declared.Slot.{Slot}
-use Rattle.rules.specs.declared.Hold.{Hold}
 use Rattle.rules.specs.Table.{used}
 use Rattle.rules.specs.Create.{Change, Lowest, FreeSlot, HoldOf, accepted}
 use Rattle.slots.specs.Words.{RoomsBelow}
@@ -19,7 +17,7 @@ use Rattle.accept.specs.declared.hold.Holding.{Holding}
 use Rattle.accept.specs.Asked.{LowestOr, Held}
 use Rattle.accept.proofs.LowestFound.{lowest-same}
 use Rattle.cache.specs.Seen.{seen}
-use Rattle.cache.specs.Judged.{CreateReady, withPatch, keptAt}
+use Rattle.cache.specs.Judged.{CreateReady, withPatch}
 use Rattle.cache.proofs.Accepted.{create-refused, create-no-slot, create-no-room, create-granted, image-made, undo-made}
 use Rattle.cache.proofs.Table.create.Statement.{statement}
 use Rattle.cache.proofs.Table.create.Tie as tie

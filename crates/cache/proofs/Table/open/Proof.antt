@@ -2,13 +2,12 @@
 use Prim.Native.Nat.{ℕ}
 use mathlib.Core.Path.{_≡_, sym, subst}
 use mathlib.Core.Logic.{inl, inr}
-use native.Mathlib.Omega.{arith}
 use borrow.Author.Needs.{needs}
 use Rattle.rules.specs.declared.Answer.{Answer}
 use Rattle.rules.specs.declared.Answer.the-variants as answer
 use Rattle.rules.specs.Table as rules
 use Rattle.rules.specs.Open.{opened}
-use Rattle.rules.specs.Calls.{Opens, Opening}
+use Rattle.rules.specs.Calls.{Opens}
 use Rattle.rules.proofs.Steps.{open-row}
 use Rattle.cache.proofs.Looks.{open-no-first}
 use Rattle.cache.proofs.Table.open.Statement.{statement}

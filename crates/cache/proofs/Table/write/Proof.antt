@@ -1,6 +1,6 @@
 -- `Table::write` meets its contract: what is judged early, the largest set, the block handed out and the patches sent. Assumes nothing.
 use Prim.Native.Nat.{ℕ}
-use mathlib.Core.Path.{_≡_, sym, ap, subst, _∙_}
+use mathlib.Core.Path.{ap, subst, _∙_}
 use mathlib.Core.List.{List}
 use borrow.Author.Needs.{needs}
 use denote.Ref.{now}

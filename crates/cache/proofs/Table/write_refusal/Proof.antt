@@ -1,12 +1,9 @@
 -- `Table::write_refusal` meets its contract: the refusals 1 to 12, in their order. Assumes nothing.
-use Prim.Native.Nat.{_<_}
 use mathlib.Core.Logic.{inl, inr}
 use mathlib.Core.Path.{refl}
 use native.Mathlib.Omega.{arith}
 use borrow.Author.Needs.{needs}
-use lib.ListN.{length}
 use Rattle.masks.proofs.Decided.{yes-not, no-not}
-use Rattle.rules.specs.Sizes.{blocks}
 use Rattle.rules.specs.Table.{Sound}
 use Rattle.slots.specs.Words.{PatchesOn}
 use Rattle.slots.proofs.OnBlock.{some-flies, none-flies, some-waits, none-waits}

@@ -1,6 +1,6 @@
 -- `create::keep` meets its contract. Assumes nothing.
 use Prim.Native.Nat.{ℕ}
-use mathlib.Core.Path.{_≡_, sym, ap, _∙_}
+use mathlib.Core.Path.{sym, ap, _∙_}
 use native.Mathlib.Nat.{mul-comm}
 use borrow.Author.Needs.{needs}
 use denote.Ref.{now}

@@ -11,20 +11,7 @@ use Rattle.masks.proofs.Decided.{clash, yes-not, no-not}
 use Rattle.masks.proofs.Laws.{size-less, has-of}
 use Rattle.rules.specs.Table.{waitsOn, hardOn}
 use Rattle.rules.specs.Write.{Largest}
-use Rattle.send.proofs.Rounds.{
-  Kept,
-  Round,
-  Walked,
-  all-waiting-kept,
-  round-sub,
-  round-keeps,
-  round-largest,
-  walk-starts,
-  walk-passes,
-  walk-strikes,
-  walk-ends,
-  hard-strikes-all,
-}
+use Rattle.send.proofs.Rounds.{Kept, Round, Walked, all-waiting-kept, round-sub, round-keeps, round-largest, walk-starts, walk-passes, walk-strikes, walk-ends, hard-strikes-all}
 use Rattle.send.proofs.largest.largest.Statement.{statement}
 use Rattle.send.proofs.largest.largest.Tie as tie
 

@@ -1,7 +1,5 @@
 -- `slots::sound::sound_alone` meets its contract: each answer is what the tests before it leave of one patch. Assumes nothing.
-use mathlib.Core.Path.{sym, _∙_, subst}
-use Prim.Native.Nat.{ℕ, _<_}
-use native.Mathlib.Nat.{not-le-of-lt}
+use mathlib.Core.Path.{sym, _∙_}
 use native.Mathlib.Omega.{arith}
 use borrow.Author.Needs.{needs}
 use Rattle.masks.proofs.Decided.{clash, yes-not, no-not}
