@@ -1,9 +1,9 @@
 -- WHAT IS KEPT OVER SLEEP IS THE TABLE: the bytes that a granted call leaves are a table, and mean the very next table of document 01.
--- Assumed: what was read are bytes, as memory has them, and for create that the table read was sound, as every table is that these calls leave.
-use Prim.Native.Nat.{ℕ, _+_, _^_, _<_}
+-- Assumed: what was read are bytes, as memory has them.
+use Prim.Native.Nat.{ℕ, zero, suc, _+_, _/_, _^_, _<_}
 use mathlib.Core.Path.{_≡_, sym, subst}
 use mathlib.Core.Bool.{Bool, true, false, cond}
-use mathlib.Core.List.{List}
+use mathlib.Core.List.{List, [], _∷_, _++_}
 use mathlib.Core.Logic.{inr}
 use native.Mathlib.Decide.{ℕ-discrete}
 use native.Mathlib.Omega.{arith}
@@ -19,7 +19,7 @@ use Rattle.rules.specs.declared.State.the-variants as state
 use Rattle.rules.specs.declared.Slot.{Slot}
 use Rattle.rules.specs.Sizes.{slots, lastNumber}
 use Rattle.rules.specs.Slots.{roomOf, freeSlot, withState, withBefores}
-use Rattle.rules.specs.Table.{Table, Sound, slotAt, slotsBy, used, fliesOn}
+use Rattle.rules.specs.Table.{Table, slotAt, slotsBy, used, fliesOn}
 use Rattle.rules.specs.Open.{opened}
 use Rattle.rules.specs.Create.{Change, befores, HoldOf, turnedState, turned, patch, acceptedSlots, accepted}
 use Rattle.rules.specs.Write.{sentState, sentSlots, sent}
@@ -30,7 +30,7 @@ use Rattle.rules.proofs.Cases.{passed}
 use Rattle.rules.proofs.SlotsBy.{slot-by, length-by}
 use Rattle.rules.proofs.StaysSound.{Valid}
 use Rattle.rules.proofs.SoundCalls.{granted-valid}
-use Rattle.board.specs.Layout.{numberAt, stateOf, slotIn, slotStart, tableIn, IsTable, bytesOf, SlotFits, TableFits}
+use Rattle.board.specs.Layout.{numberAt, stateOf, slotIn, slotStart, tableIn, IsTable, inBytes, tagOf, slotBytes, slotsBytes, bytesOf, SlotFits, TableFits}
 use Rattle.board.proofs.Numbers.{number-4, number-8}
 use Rattle.board.proofs.RoundTrip.{read-back}
 
@@ -39,6 +39,43 @@ use Rattle.board.proofs.RoundTrip.{read-back}
 -- each is below 256, as in memory
 abbrev pub Bytes : List ℕ → Type 0
 Bytes xs = (i : ℕ) → getD xs i 0 < 256
+
+-- and so is all that is written
+number-bytes : (n x : ℕ) → Bytes (inBytes n x)
+unfolding inBytes
+number-bytes zero x i = omega arith
+number-bytes (suc n) x zero = omega arith
+number-bytes (suc n) x (suc i) = number-bytes n (x / 256) i
+
+append-bytes : (xs ys : List ℕ) → Bytes xs → Bytes ys → Bytes (xs ++ ys)
+append-bytes [] ys f g i = g i
+append-bytes (x ∷ xs) ys f g zero = f 0
+append-bytes (x ∷ xs) ys f g (suc i) = append-bytes xs ys (λ j. f (suc j)) g i
+
+more-bytes : (xs : List ℕ) (n x : ℕ) → Bytes xs → Bytes (xs ++ inBytes n x)
+more-bytes xs n x f = append-bytes xs (inBytes n x) f (number-bytes n x)
+
+slot-bytes : (s : Slot) → Bytes (slotBytes s)
+unfolding slotBytes
+slot-bytes s =
+    let a = inBytes 4 (tagOf (s .state)) in
+    let b = a ++ inBytes 4 (roomOf (s .state)) in
+    let c = b ++ inBytes 4 (s .number) in
+    let d = c ++ inBytes 4 (s .block) in
+    let e = d ++ inBytes 4 (s .offset) in
+    let f = e ++ inBytes 4 (s .len) in
+    more-bytes f 8 (s .befores) (more-bytes e 4 (s .len) (more-bytes d 4 (s .offset) (more-bytes c 4 (s .block) (more-bytes b 4 (s .number) (more-bytes a 4 (roomOf (s .state)) (number-bytes 4 (tagOf (s .state))))))))
+
+slots-bytes : (ss : List Slot) → Bytes (slotsBytes ss)
+unfolding slotsBytes
+slots-bytes [] i = omega arith
+slots-bytes (s ∷ ss) i = append-bytes (slotBytes s) _ (slot-bytes s) (slots-bytes ss) i
+
+pub bytes-of : (t : Table) → Bytes (bytesOf t)
+unfolding bytesOf
+bytes-of t =
+    let a = inBytes 4 (t .first) in
+    append-bytes (a ++ inBytes 4 (t .next)) (slotsBytes (t .slots)) (more-bytes a 4 (t .next) (number-bytes 4 (t .first))) (slots-bytes (t .slots))
 
 state-fits : (tag room : ℕ) → room < 2 ^ 32 → roomOf (stateOf tag room) < 2 ^ 32
 state-fits tag room l = by (eqb tag 0) (eqb tag 1) (eqb tag 2) (eqb tag 3)
@@ -168,10 +205,10 @@ open-kept n o p = go (ℕ-discrete (plainNumber (o .answer)) 0)
         subst (λ (x : Opening). ReadsBack (x .table)) (sym (p .grant z)) (read-back (opened n) (opened-fits n (omega (arith, b))))
 
 module _ (xs : List ℕ) (bytes : Bytes xs) where
-  pub create-kept : (image undo : List ℕ) (c : Change) (o : Creation) → Sound (tableIn xs) → Creates (tableIn xs) image undo c o → createNumber (o .answer) ≡ 0 → ReadsBack (o .table)
-  create-kept image undo c o s p z =
+  pub create-kept : (image undo : List ℕ) (c : Change) (o : Creation) → Creates (tableIn xs) image undo c o → createNumber (o .answer) ≡ 0 → ReadsBack (o .table)
+  create-kept image undo c o p z =
       let g = p .grant z in
-      let v = granted-valid (tableIn xs) image undo c s (subst (First (createCases (tableIn xs) image undo c)) z (p .first)) in
+      let v = granted-valid (tableIn xs) image undo c (subst (First (createCases (tableIn xs) image undo c)) z (p .first)) in
       subst (λ (x : Creation). ReadsBack (x .table)) (sym (g .whole)) (read-back (accepted (tableIn xs) c (g .slot) (g .hold)) (accepted-fits (tableIn xs) (table-fits xs bytes) c (g .slot) (g .hold) v (g .hard-or-soft)))
 
   pub write-kept : (image undo handed : List ℕ) (b : ℕ) (o : Writing) → Writes (tableIn xs) image undo handed b o → writeNumber (o .answer) ≡ 0 → ReadsBack (o .table)

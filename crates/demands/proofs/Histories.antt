@@ -79,7 +79,7 @@ module _ (h : History) (g : Good h) where
           let c6 = passed (λ e. omega arith) (c5 .1) in
           let c7 = passed (λ e. omega arith) (c6 .1) in
           subst (λ (x : Creation). Good (afterCreate h c x)) (sym (a .whole))
-          (created-good h g c (a .slot) (a .hold) (a .lowest) (a .hard-or-soft) (granted-valid (h .table) (h .image) (h .undo) c (g .sound) f)
+          (created-good h g c (a .slot) (a .hold) (a .lowest) (a .hard-or-soft) (granted-valid (h .table) (h .image) (h .undo) c f)
           (λ n e. elim (decLt n (h .table .next)) [ yes l ↦ l | no d ↦ absurd (c7 .0 (n, e, λ i. d (i .1))) ])
           (stable (length (h .undo)) undoBytes (λ d. c1 .0 (inr d))))
 

@@ -1,10 +1,10 @@
 -- A SOUND TABLE STAYS SOUND: whatever a call answers, the table that it returns is sound if the table passed was; an opened one always is.
-use Prim.Native.Nat.{ℕ, _<_}
+use Prim.Native.Nat.{ℕ, _+_, _≤_, _<_}
 use mathlib.Core.Path.{_≡_, sym, subst}
 use mathlib.Core.List.{List}
 use mathlib.Core.Logic.{inl, inr}
 use native.Mathlib.Omega.{arith}
-use native.Mathlib.Decide.{ℕ-discrete}
+use native.Mathlib.Decide.{ℕ-discrete, decLt}
 use lib.ListN.{length}
 use Rattle.rules.specs.Sizes.{lastNumber}
 use Rattle.rules.specs.Table.{Table, Sound}
@@ -15,8 +15,8 @@ use Rattle.rules.proofs.Cases.{passed}
 use Rattle.rules.proofs.StaysSound.{Valid, opened-sound, accepted-sound, sent-sound, completed-sound}
 
 -- a change that no refusal holds for is within its bounds, and there is a number for it
-pub granted-valid : (t : Table) (image undo : List ℕ) (c : Change) → Sound t → First (createCases t image undo c) 0 → Valid t c
-granted-valid t image undo c s f =
+pub granted-valid : (t : Table) (image undo : List ℕ) (c : Change) → First (createCases t image undo c) 0 → Valid t c
+granted-valid t image undo c f =
     let c1 = passed (λ e. omega arith) f in
     let c2 = passed (λ e. omega arith) (c1 .1) in
     let c3 = passed (λ e. omega arith) (c2 .1) in
@@ -32,8 +32,13 @@ granted-valid t image undo c s f =
       len-least = omega (arith, n4);
       len-most = omega (arith, m4);
       ends = omega (arith, c5 .0);
-      last = omega (arith, c8 .0, s .next-most);
+      last = by (c2 .0) (c8 .0) (decLt (lastNumber + 1) (t .next));
     }
+  where
+    -- that the table is not unsound bounds next
+    by : ((Sound t → ⊥) → ⊥) → (t .next ≡ lastNumber + 1 → ⊥) → Dec (lastNumber + 1 < t .next) → t .next ≤ lastNumber
+    by n m (yes l) = absurd (n (λ s. omega (arith, l, s .next-most)))
+    by n m (no l) = omega (arith, m, l)
 
 pub open-sound : (n : ℕ) (o : Opening) → Opens n o → Sound (o .table)
 open-sound n o p = go (ℕ-discrete (plainNumber (o .answer)) 0)
@@ -53,7 +58,7 @@ create-sound t image undo c o s p = go (ℕ-discrete (createNumber (o .answer)) 
     go (no d) = subst (λ (x : Creation). Sound (x .table)) (sym (p .refusal d)) s
     go (yes z) =
         let g = p .grant z in
-        let v = granted-valid t image undo c s (subst (First (createCases t image undo c)) z (p .first)) in
+        let v = granted-valid t image undo c (subst (First (createCases t image undo c)) z (p .first)) in
         subst (λ (x : Creation). Sound (x .table)) (sym (g .whole)) (accepted-sound t c (g .slot) (g .hold) s v (g .lowest) (g .hard-or-soft))
 
 pub write-sound : (t : Table) (image undo block : List ℕ) (b : ℕ) (o : Writing) → Sound t → Writes t image undo block b o → Sound (o .table)

@@ -1,0 +1,156 @@
+-- A run is a history: every function, granted or refused, does to the table that the bytes mean what its call does, and the notes are the
+-- same. Assumes nothing.
+use Prim.Native.Nat.{ℕ}
+use mathlib.Core.Path.{_≡_, sym, ap, subst}
+use mathlib.Core.Bool.{Bool, true, false, cond}
+use mathlib.Core.List.{List}
+use native.Mathlib.Decide.{ℕ-discrete}
+use borrow.Author.Tests.{ne-eqb}
+use lib.Dec.{eqb}
+use Rattle.rules.specs.Table.{Table}
+use Rattle.rules.specs.Create.{Change}
+use Rattle.rules.specs.Calls.{Opening, Creation, Creates, createNumber, createRefused, createGranted, Writing, Writes, writeNumber, writeRefused, writeGranted, Completion, Completes, plainNumber, completeRefused, completeGranted}
+use Rattle.demands.specs.History as history
+use Rattle.demands.specs.History.{History}
+use Rattle.board.specs.Layout.{tableIn, IsTable, bytesOf}
+use Rattle.board.specs.Calls.{tableAfter, CreateEnd, createEnd, WriteEnd, writeEnd}
+use Rattle.board.proofs.Kept.{Bytes, bytes-of, open-kept, create-kept, write-kept, complete-kept}
+use Rattle.firmware.specs.Run.{Run, meant, begun, afterCreate, afterWrite, afterComplete, Call, Happened}
+
+-- a history with another table
+abbrev withTable : History → Table → History
+withTable h next = record {
+  table = next;
+  image = h .image;
+  undo = h .undo;
+  opening = h .opening;
+  accepted = h .accepted;
+  inFlight = h .inFlight;
+  landed = h .landed;
+}
+
+module _ (r : Run) where
+  abbrev t : Table
+  t = tableIn (r .bytes)
+
+  create-means : (c : Change) (o : Creation) → Creates t (r .image) (r .undo) c o → (createNumber (o .answer) ≡ 0 → tableIn (bytesOf (o .table)) ≡ o .table)
+      → meant (afterCreate r c (createEnd (r .bytes) o)) ≡ history.afterCreate (meant r) c o
+  unfolding history.afterCreate
+  create-means c o p kept = by (ℕ-discrete (createNumber (o .answer)) 0)
+    where
+      refused : (k : ℕ) → (k ≡ 0 → ⊥)
+          → let x = createRefused t (r .image) (r .undo) k in meant (afterCreate r c (createEnd (r .bytes) x)) ≡ history.afterCreate (meant r) c x
+      refused k d = rw (ne-eqb k 0 d)
+
+      by : Dec (createNumber (o .answer) ≡ 0) → meant (afterCreate r c (createEnd (r .bytes) o)) ≡ history.afterCreate (meant r) c o
+      by (yes z) =
+          subst (λ (x : Creation). tableIn (bytesOf (x .table)) ≡ x .table → meant (afterCreate r c (createEnd (r .bytes) x)) ≡ history.afterCreate (meant r) c x)
+          (sym (p .grant z .whole)) (λ e. ap (withTable (history.afterCreate (meant r) c (createGranted t (r .image) (r .undo) c (p .grant z .slot) (p .grant z .hold)))) e) (kept z)
+      by (no d) =
+          subst (λ (x : Creation). meant (afterCreate r c (createEnd (r .bytes) x)) ≡ history.afterCreate (meant r) c x) (sym (p .refusal d)) (refused _ d)
+
+  write-means : (b : ℕ) (lent : List ℕ) (o : Writing) → Writes t (r .image) (r .undo) lent b o → (writeNumber (o .answer) ≡ 0 → tableIn (bytesOf (o .table)) ≡ o .table)
+      → meant (afterWrite r b (writeEnd (r .bytes) o)) ≡ history.afterWrite (meant r) b o
+  unfolding history.afterWrite
+  write-means b lent o p kept = by (ℕ-discrete (writeNumber (o .answer)) 0)
+    where
+      refused : (k : ℕ) → (k ≡ 0 → ⊥)
+          → let x = writeRefused t (r .image) (r .undo) lent k in meant (afterWrite r b (writeEnd (r .bytes) x)) ≡ history.afterWrite (meant r) b x
+      refused k d = rw (ne-eqb k 0 d)
+
+      by : Dec (writeNumber (o .answer) ≡ 0) → meant (afterWrite r b (writeEnd (r .bytes) o)) ≡ history.afterWrite (meant r) b o
+      by (yes z) =
+          subst (λ (x : Writing). tableIn (bytesOf (x .table)) ≡ x .table → meant (afterWrite r b (writeEnd (r .bytes) x)) ≡ history.afterWrite (meant r) b x)
+          (sym (p .grant z .whole)) (λ e. ap (withTable (history.afterWrite (meant r) b (writeGranted t (r .image) (r .undo) b (p .grant z .set)))) e) (kept z)
+      by (no d) =
+          subst (λ (x : Writing). meant (afterWrite r b (writeEnd (r .bytes) x)) ≡ history.afterWrite (meant r) b x) (sym (p .refusal d)) (refused _ d)
+
+  complete-means : (b : ℕ) (o : Completion) → Completes t b o → (plainNumber (o .answer) ≡ 0 → tableIn (bytesOf (o .table)) ≡ o .table)
+      → meant (afterComplete r b (plainNumber (o .answer)) (tableAfter (plainNumber (o .answer)) (r .bytes) (o .table))) ≡ history.afterComplete (meant r) b o
+  unfolding history.afterComplete
+  complete-means b o p kept = by (ℕ-discrete (plainNumber (o .answer)) 0)
+    where
+      after : Completion → Run
+      after x = afterComplete r b (plainNumber (x .answer)) (tableAfter (plainNumber (x .answer)) (r .bytes) (x .table))
+
+      refused : (k : ℕ) → (k ≡ 0 → ⊥) → meant (after (completeRefused t k)) ≡ history.afterComplete (meant r) b (completeRefused t k)
+      refused k d = rw (ne-eqb k 0 d)
+
+      by : Dec (plainNumber (o .answer) ≡ 0) → meant (after o) ≡ history.afterComplete (meant r) b o
+      by (yes z) =
+          subst (λ (x : Completion). tableIn (bytesOf (x .table)) ≡ x .table → meant (after x) ≡ history.afterComplete (meant r) b x)
+          (sym (p .grant z)) (λ e. ap (withTable (history.afterComplete (meant r) b (completeGranted t b))) e) (kept z)
+      by (no d) = subst (λ (x : Completion). meant (after x) ≡ history.afterComplete (meant r) b x) (sym (p .refusal d)) (refused _ d)
+
+begun-means : (o : Opening) (store undo : List ℕ) → tableIn (bytesOf (o .table)) ≡ o .table → meant (begun (bytesOf (o .table)) store undo) ≡ history.begun o store undo
+unfolding history.begun
+begun-means o store undo kept = ap (withTable (history.begun o store undo)) kept
+
+-- what holds of every run
+record Good (r : Run) : Type 0 where
+  is-table : IsTable (r .bytes)
+  in-bytes : Bytes (r .bytes)
+  happened : history.Happened (meant r)
+
+-- the bytes after a call are a table, written or not
+after-table : (k : ℕ) (xs : List ℕ) (next : Table) → IsTable xs → (k ≡ 0 → IsTable (bytesOf next)) → IsTable (tableAfter k xs next)
+after-table k xs next is kept = by (ℕ-discrete k 0)
+  where
+    by : Dec (k ≡ 0) → IsTable (tableAfter k xs next)
+    by (yes z) = subst (λ (n : ℕ). IsTable (tableAfter n xs next)) (sym z) (kept z)
+    by (no d) = rw (ne-eqb k 0 d) is
+
+after-bytes : (k : ℕ) (xs : List ℕ) (next : Table) → Bytes xs → Bytes (tableAfter k xs next)
+after-bytes k xs next f = by (eqb k 0)
+  where
+    by : (b : Bool) → Bytes (cond b (bytesOf next) xs)
+    by true = bytes-of next
+    by false = f
+
+-- every function keeps it
+step : {r r′ : Run} → Good r → Call r r′ → Good r′
+step {r} g (Call.creates c e p) =
+    let q = p .is-table (g .is-table) in
+    let o = q .0 in
+    let kept = create-kept (r .bytes) (g .in-bytes) (r .image) (r .undo) c o (q .1) in
+    subst (λ (x : CreateEnd). Good (afterCreate r c x)) (sym (q .2)) (record {
+      is-table = after-table (createNumber (o .answer)) (r .bytes) (o .table) (g .is-table) (λ z. kept z .1);
+      in-bytes = after-bytes (createNumber (o .answer)) (r .bytes) (o .table) (g .in-bytes);
+      happened = subst history.Happened (sym (create-means r c o (q .1) (λ z. kept z .0))) (history.Happened.calls (g .happened) (history.Call.creates c o (q .1)));
+    })
+step {r} g (Call.writes b lent e p) =
+    let q = p .is-table (g .is-table) in
+    let o = q .0 in
+    let kept = write-kept (r .bytes) (g .in-bytes) (r .image) (r .undo) lent b o (q .1) in
+    subst (λ (x : WriteEnd). Good (afterWrite r b x)) (sym (q .2)) (record {
+      is-table = after-table (writeNumber (o .answer)) (r .bytes) (o .table) (g .is-table) (λ z. kept z .1);
+      in-bytes = after-bytes (writeNumber (o .answer)) (r .bytes) (o .table) (g .in-bytes);
+      happened = subst history.Happened (sym (write-means r b lent o (q .1) (λ z. kept z .0))) (history.Happened.calls (g .happened) (history.Call.writes b lent o (q .1)));
+    })
+step {r} g (Call.completes b k after p) =
+    let q = p .is-table (g .is-table) in
+    let o = q .0 in
+    let kept = complete-kept (r .bytes) (g .in-bytes) b o (q .1) in
+    subst (λ (x : List ℕ). Good (afterComplete r b k x)) (sym (q .3))
+    (subst (λ (x : ℕ). Good (afterComplete r b x (tableAfter (plainNumber (o .answer)) (r .bytes) (o .table)))) (sym (q .2)) (record {
+      is-table = after-table (plainNumber (o .answer)) (r .bytes) (o .table) (g .is-table) (λ z. kept z .1);
+      in-bytes = after-bytes (plainNumber (o .answer)) (r .bytes) (o .table) (g .in-bytes);
+      happened = subst history.Happened (sym (complete-means r b o (q .1) (λ z. kept z .0))) (history.Happened.calls (g .happened) (history.Call.completes b o (q .1)));
+    }))
+step g (Call.asks n k s p) = g
+step g (Call.counts b k n p) = g
+
+good : {r : Run} → Happened r → Good r
+good (Happened.opens memory store undo first k after l p s) =
+    let q = p .sized l in
+    let o = q .0 in
+    let kept = open-kept first o (q .1) in
+    subst (λ (x : List ℕ). Good (begun x store undo)) (sym (q .3)) (record {
+      is-table = kept .1;
+      in-bytes = bytes-of (o .table);
+      happened = subst history.Happened (sym (begun-means o store undo (kept .0))) (history.Happened.opens first o store undo (q .1) s);
+    })
+good (Happened.calls w c) = step (good w) c
+
+pub run-is-history : {r : Run} → Happened r → history.Happened (meant r)
+run-is-history w = good w .happened

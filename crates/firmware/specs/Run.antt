@@ -1,0 +1,87 @@
+-- A run of a radio's firmware: an opening by the library, and then any of its functions with any arguments, each on the bytes of the table that
+-- the last one left. The notes beside it are those of a history, taken by the numbers that the functions give: a call is granted where it
+-- answers 0.
+use Prim.Native.Nat.{ℕ}
+use mathlib.Core.Path.{_≡_}
+use mathlib.Core.Bool.{cond, not}
+use mathlib.Core.List.{List, [], _∷_, _++_}
+use lib.Dec.{eqb}
+use lib.ListN.{length}
+use Rattle.rules.specs.Sizes.{slots, imageBytes}
+use Rattle.rules.specs.Create.{Change}
+use Rattle.demands.specs.History.{Accepted, Sent, History, numbersBelow, those}
+use Rattle.board.specs.Layout.{tableBytes, tableIn}
+use Rattle.board.specs.Calls.{OpenCall, CreateEnd, CreateCall, WriteEnd, WriteCall, CompleteCall, AskCall, CountCall}
+
+pub record Run : Type 0 where
+  -- what the firmware keeps between two calls, also over sleep: the table as bytes, the working image and the undo area
+  pub bytes : List ℕ
+  pub image : List ℕ
+  pub undo : List ℕ
+  -- the notes: what the store held, the accepted changes, the writes in flight and those that have landed
+  pub opening : List ℕ
+  pub accepted : List Accepted
+  pub inFlight : List Sent
+  pub landed : List Sent
+
+-- the history that a run is: its table is the one that the bytes mean
+abbrev pub meant : Run → History
+meant r = record {
+  table = tableIn (r .bytes);
+  image = r .image;
+  undo = r .undo;
+  opening = r .opening;
+  accepted = r .accepted;
+  inFlight = r .inFlight;
+  landed = r .landed;
+}
+
+abbrev pub begun : List ℕ → List ℕ → List ℕ → Run
+begun bytes store undo = record { bytes = bytes; image = store; undo = undo; opening = store; accepted = []; inFlight = []; landed = [] }
+
+abbrev pub afterCreate : Run → Change → CreateEnd → Run
+afterCreate r c e = record {
+  bytes = e .table;
+  image = e .image;
+  undo = e .undo;
+  opening = r .opening;
+  accepted = cond (eqb (e .refusal) 0) (record { number = e .number; change = c } ∷ r .accepted) (r .accepted);
+  inFlight = r .inFlight;
+  landed = r .landed;
+}
+
+abbrev pub afterWrite : Run → ℕ → WriteEnd → Run
+afterWrite r b e = record {
+  bytes = e .table;
+  image = e .image;
+  undo = e .undo;
+  opening = r .opening;
+  accepted = r .accepted;
+  inFlight = cond (eqb (e .refusal) 0) (record { block = b; bytes = e .handed; numbers = numbersBelow (tableIn (r .bytes) .slots) (e .set) slots } ∷ r .inFlight) (r .inFlight);
+  landed = r .landed;
+}
+
+abbrev pub afterComplete : Run → ℕ → ℕ → List ℕ → Run
+afterComplete r b refusal after = record {
+  bytes = after;
+  image = r .image;
+  undo = r .undo;
+  opening = r .opening;
+  accepted = r .accepted;
+  inFlight = cond (eqb refusal 0) (those (λ w. not (eqb (w .block) b)) (r .inFlight)) (r .inFlight);
+  landed = cond (eqb refusal 0) (those (λ w. eqb (w .block) b) (r .inFlight) ++ r .landed) (r .landed);
+}
+
+-- one function of the library, by its promise's own definition; ask and count leave everything as it is
+pub data Call (r : Run) : Run → Type 0 where
+  creates : (c : Change) (e : CreateEnd) → CreateCall (r .bytes) (r .image) (r .undo) c e → Call r (afterCreate r c e)
+  writes : (b : ℕ) (lent : List ℕ) (e : WriteEnd) → WriteCall (r .bytes) (r .image) (r .undo) lent b e → Call r (afterWrite r b e)
+  completes : (b refusal : ℕ) (after : List ℕ) → CompleteCall (r .bytes) b refusal after → Call r (afterComplete r b refusal after)
+  asks : (n refusal state : ℕ) → AskCall (r .bytes) n refusal state → Call r r
+  counts : (b refusal count : ℕ) → CountCall (r .bytes) b refusal count → Call r r
+
+-- a run that can be: 2,056 bytes of memory that hold anything, any first number, any store of 16,384 bytes, any undo area, and any calls
+pub data Happened : Run → Type 0 where
+  opens : (memory store undo : List ℕ) (first refusal : ℕ) (after : List ℕ) → length memory ≡ tableBytes → OpenCall memory first refusal after
+      → length store ≡ imageBytes → Happened (begun after store undo)
+  calls : {r r′ : Run} → Happened r → Call r r′ → Happened r′
