@@ -85,6 +85,7 @@ const SINGLE: &[&str] = &[
     "count: 0",
     "count: more than 0",
     "count: more than 0, some in flight",
+    "count: numbers in use a multiple of 1,024 apart",
     "buffer too short: image",
     "buffer too long: image",
     "buffer too short: undo area",

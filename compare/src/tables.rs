@@ -35,7 +35,8 @@ impl Likes {
 pub fn sound(random: &mut Random) -> Table {
     let likes = Likes::of_seed(random);
     let first = first_number(random);
-    let next = random.pick(&[first, first + 5, first + 64, first + 90, first + 300]).min(LAST_NUMBER + 1);
+    let issued = random.pick(&[0, 5, 64, 90, 300, 3_000]);
+    let next = (first + issued).min(LAST_NUMBER + 1);
     let mut table = Table { first, next, slots: vec![Slot::free(); SLOTS] };
     let mut numbers: Vec<u32> = (first..next).collect();
     let mut rooms: Vec<u32> = (0..16).collect();

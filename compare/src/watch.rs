@@ -5,6 +5,7 @@ use crate::cover::Cover;
 use crate::model::{Model, Right};
 use crate::steps::{Answer, Buffer, Call, Step, exact_size};
 use crate::table::*;
+use std::collections::BTreeSet;
 
 /// `table` is the table before the call, `lent` its bytes as the call got them.
 pub fn see(cover: &mut Cover, table: Option<&Table>, lent: &[u8], step: &Step, answer: &Answer) {
@@ -181,6 +182,10 @@ fn see_count(cover: &mut Cover, table: &Table, block: u32, count: u32) {
     when(cover, count > 0, "count: more than 0");
     let flying = !table.in_flight(block).is_empty();
     when(cover, count > 0 && flying, "count: more than 0, some in flight");
+    // Numbers alike in their low digits are where a quick test that all differ has to look twice.
+    let digits: BTreeSet<u32> = table.patches().map(|(_, patch)| patch.number % 1_024).collect();
+    let alike = digits.len() < table.patches().count();
+    when(cover, alike, "count: numbers in use a multiple of 1,024 apart");
 }
 
 fn see_refused(cover: &mut Cover, table: &Table, step: &Step, refusal: u32) {

@@ -9,6 +9,7 @@ use crate::run::Pair;
 use crate::shrink;
 use crate::steps::Answer;
 use crate::table::*;
+use std::collections::BTreeSet;
 
 /// Declares a wrong model: a name, and the rule it has instead.
 macro_rules! wrong {
@@ -98,6 +99,10 @@ wrong!(AlwaysNumberOne: fn create(&self, t: &mut Table, i: &mut [u8], u: &mut [u
 wrong!(TouchesNothing: fn create(&self, t: &mut Table, i: &mut [u8], u: &mut [u8], c: &Change) -> Result<(u32, State), Refusal> {
     Right.create(&mut t.clone(), &mut i.to_vec(), &mut u.to_vec(), c)
 });
+wrong!(LowDigitsDiffer: fn sound(&self, t: &Table) -> bool {
+    let digits: BTreeSet<u32> = t.patches().map(|(_, p)| p.number % 1_024).collect();
+    Right.sound(t) && digits.len() == t.patches().count()
+});
 wrong!(OpenKeepsFirst: fn open(&self, first: u32) -> (Refusal, Table) { (Right.open(first).0, Table::empty(first)) });
 
 /// Does not test one clause of soundness.
@@ -160,6 +165,7 @@ fn entries() -> Vec<Entry> {
         entry("write: 12 before 11", TwelveBeforeEleven, false),
         entry("answers number 1 each time", AlwaysNumberOne, true),
         entry("says granted, touches nothing", TouchesNothing, true),
+        entry("numbers told apart by ten digits alone", LowDigitsDiffer, false),
         entry("open refused keeps the first given", OpenKeepsFirst, false),
     ];
     for clause in CLAUSES {

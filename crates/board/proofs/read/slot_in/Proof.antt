@@ -1,5 +1,9 @@
 -- `read::slot_in` meets its contract: field by field. Assumes nothing.
-use Rattle.board.specs.Layout.{slotIn}
+use Prim.Native.Nat.{ℕ}
+use mathlib.Core.Path.{_≡_, ap₂, _∙_}
+use Rattle.rules.specs.declared.State.{State}
+use Rattle.rules.specs.declared.Slot.{Slot}
+use Rattle.board.specs.Layout.{stateOf, slotIn}
 use borrow.Author.Needs.{needs}
 use Rattle.board.proofs.read.slot_in.Statement.{statement}
 use Rattle.board.proofs.read.slot_in.Tie as tie
@@ -46,9 +50,28 @@ add-befores-at c = search needs
 befores-at-requires : tie.Need-befores-at-requires
 befores-at-requires c κs = search needs
 
+-- slots that agree field by field are one
+same-slot : {u u′ : State} {n n′ b b′ o o′ l l′ m m′ : ℕ} → u ≡ u′ → n ≡ n′ → b ≡ b′ → o ≡ o′ → l ≡ l′ → m ≡ m′
+    → _≡_ {A = Slot} (record { state = u; number = n; block = b; offset = o; len = l; befores = m })
+    (record { state = u′; number = n′; block = b′; offset = o′; len = l′; befores = m′ })
+same-slot state number block offset len befores = rw (state, number, block, offset, len, befores)
+
 returns : tie.Need-returns
 unfolding slotIn
-returns c = cc
+returns c =
+    let len = c .before in
+    let offset = len .before in
+    let block = offset .before in
+    let number = block .before in
+    let state = number .before in
+    let room = state .before in
+    same-slot
+    (state .state-of .ensures ∙ ap₂ stateOf (room .before .number-at .ensures) (room .number-at2 .ensures))
+    (number .number-at3 .ensures)
+    (block .number-at4 .ensures)
+    (offset .number-at5 .ensures)
+    (len .number-at6 .ensures)
+    (c .befores-at .ensures)
 
 pub slot-in-spec : {M : Type 1} → statement M
 slot-in-spec =
