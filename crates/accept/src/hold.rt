@@ -1,5 +1,4 @@
 // Whether a new patch is hard or soft, judged on the slots before it is added.
-ghost use mathlib.Core.Path.{_≡_};
 ghost use Rattle.masks.specs.Decides.{Decides};
 ghost use Rattle.rules.specs.Create.{WouldBeHard};
 ghost use Rattle.slots.specs.Words.{RoomsBelow};

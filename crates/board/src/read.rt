@@ -6,6 +6,7 @@ ghost use Rattle.masks.specs.Decides.{Decides};
 ghost use Rattle.cache.specs.Seen.{seen};
 ghost use Rattle.board.specs.Layout.{tableBytes, numberAt, stateOf, slotIn, tableIn, IsTable};
 use cache::Table;
+use moves::slot::free;
 use rules::Hold;
 use rules::Kind;
 use rules::Slot;
@@ -85,15 +86,8 @@ fn slots_in(bytes: &[u8]) -> [Slot; 64]
     requires { ⌜ length (now bytes) ≡ tableBytes ⌝ }
     ensures { λ r. ⌜ r ≡ tableIn (now (bytes .entry)) .slots ⌝ }
 {
-    let free = Slot {
-        state: State::Free,
-        number: 0,
-        block: 0,
-        offset: 0,
-        len: 0,
-        befores: 0,
-    };
-    let mut slots = [free; 64];
+    let slot = free();
+    let mut slots = [slot; 64];
     for i in 0..64 {
         let s = slot_in(bytes, 8 + 32 * i);
         slots[i] = s;

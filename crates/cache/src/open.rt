@@ -5,27 +5,19 @@ ghost use Rattle.cache.specs.Seen.{seen, opening};
 ghost use mathlib.Core.Path.{_≡_};
 use crate::Opened;
 use crate::Table;
+use moves::slot::free;
 use rules::Answer;
-use rules::Slot;
-use rules::State;
 
 impl Table {
     // The empty table whose first and next number are n.
     fn empty(n: u32) -> Table
         ensures { λ r. ⌜ seen r ≡ opened n ⌝ }
     {
-        let free = Slot {
-            state: State::Free,
-            number: 0,
-            block: 0,
-            offset: 0,
-            len: 0,
-            befores: 0,
-        };
+        let slot = free();
         Table {
             first: n,
             next: n,
-            slots: [free; 64],
+            slots: [slot; 64],
         }
     }
 

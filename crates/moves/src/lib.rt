@@ -2,5 +2,5 @@
 // patches committed. Each is a walk that sets every slot by what it was.
 pub mod complete;
 pub mod create;
-mod slot;
+pub mod slot;
 pub mod write;

@@ -1,4 +1,4 @@
-// One slot with another state or with other befores. Every field is listed here and nowhere else.
+// One slot with another state or with other befores, and a free one.
 ghost use mathlib.Core.Path.{_≡_};
 ghost use Rattle.rules.specs.Slots.{withState, withBefores, freeSlot};
 use rules::Slot;

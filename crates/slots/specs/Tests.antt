@@ -1,4 +1,4 @@
--- What the private tests of `is_sound` decide, of one slot and of its number among others. No public promise cites this file: those cite Sound of `rules`.
+-- What the private tests of `judge` decide, of one slot and of its number among others. No public promise cites this file: those cite Sound of `rules`.
 use Prim.Native.Nat.{ℕ, _+_, _/_, _%_, _≤_, _<_}
 use mathlib.Core.Path.{_≡_}
 use mathlib.Core.Bool.{Bool, true}

@@ -43,7 +43,7 @@ pub record Gathered (Gives : ℕ → ℕ → Type 0) (n m : ℕ) : Type 0 where
   pub all : (i r : ℕ) → i < n → r < 64 → Gives i r → has m r ≡ true
   pub only : (r : ℕ) → r < 64 → has m r ≡ true → (i : ℕ) × (i < n) × Gives i r
 
--- m has just the rooms of the slots below n; no public promise cites this, only the walks that gather rooms
+-- m has just the rooms of the slots below n
 abbrev pub RoomsBelow : List Slot → ℕ → ℕ → Type 0
 RoomsBelow ss = Gathered (HasRoom ss)
 

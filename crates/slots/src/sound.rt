@@ -73,8 +73,8 @@ fn sound_alone(s: Slot, i: usize, first: u32, next: u32) -> bool
     true
 }
 
-// Marks a number by its ten lowest digits, and says whether that mark was there: a number that
-// comes again finds its mark, and so does one that only ends in the same digits.
+// Marks a number by its ten lowest binary digits, and says whether that mark was there: a number
+// that comes again finds its mark, and so does one that only ends in the same digits.
 fn mark(marks: &mut [u64; 16], n: u32) -> bool
     requires { ⌜ length (now marks) ≡ 16 ⌝ }
     ensures { λ r. ⌜ Marking (now (marks .entry)) n r (now (marks .exit)) ⌝ }

@@ -14,6 +14,9 @@ Inv-loop bytes slots₀ i₀ slots i = (i ≤ 64) × Walked (λ k s. slotIn byte
 abbrev μ-loop : tie.MeasureT-loop
 μ-loop bytes slots₀ i₀ slots i = 64 - i
 
+free-requires : tie.Need-free-requires Inv-loop μ-loop
+free-requires c κs = search needs
+
 loop-holds : tie.Need-loop-holds Inv-loop μ-loop
 loop-holds c = (omega arith, walk-starts refl)
 
@@ -51,6 +54,7 @@ slots-in-spec =
     (tie.spec
     Inv-loop
     μ-loop
+    free-requires
     loop-holds
     mul-slot-in
     add-slot-in

@@ -1,12 +1,15 @@
 -- `Table::empty` meets its contract: 64 free slots. Assumes nothing.
-use mathlib.Core.Path.{refl}
+use borrow.Author.Needs.{needs}
 use Rattle.rules.specs.Table.{slotsFrom}
 use Rattle.cache.proofs.Table.empty.Statement.{statement}
 use Rattle.cache.proofs.Table.empty.Tie as tie
 
+free-requires : tie.Need-free-requires
+free-requires c κs = search needs
+
 returns : tie.Need-returns
 unfolding slotsFrom
-returns c = refl
+returns c = rw (c .free .ensures)
 
 pub empty-spec : {M : Type 1} → statement M
-empty-spec = tie.close (tie.spec returns)
+empty-spec = tie.close (tie.spec free-requires returns)
