@@ -2,12 +2,22 @@
 use Rattle.demands.proofs.QuestionFour.{question-four}
 use Rattle.demands.proofs.QuestionSeven.{question-seven}
 use Rattle.firmware.specs.Run.{meant}
-use Rattle.firmware.specs.Answers.{FirmwareAnswers}
+use Rattle.firmware.specs.Answers.{FirmwareQuestionFour, FirmwareQuestionSeven}
 use Rattle.firmware.proofs.Means.{run-is-history}
+use Rattle.firmware.proofs.Reach as reach
 
-pub firmware-answers : FirmwareAnswers
-firmware-answers = record {
-  four = λ r w new. question-four .at-any-cut (meant r) (run-is-history w) new;
+pub firmware-question-four : FirmwareQuestionFour
+firmware-question-four = record {
+  at-any-cut = λ r w new. question-four .at-any-cut (meant r) (run-is-history w) new;
   by-true-notes = λ r w. question-four .by-true-notes (meant r) (run-is-history w);
-  seven = λ r w new p l. question-seven .store (meant r) (run-is-history w) new p l;
+}
+
+pub firmware-question-seven : FirmwareQuestionSeven
+firmware-question-seven = record {
+  creates = reach.create-reaches;
+  writes = reach.write-reaches;
+  create-refused = reach.create-refused;
+  write-refused = reach.write-refused;
+  complete-refused = reach.complete-refused;
+  store = λ r w new p l. question-seven .store (meant r) (run-is-history w) new p l;
 }

@@ -1,3 +1,4 @@
--- That a run is a history is in Means; Answers has the theorems.
+-- That a run is a history is in Means, and which bytes a function reaches in Reach; Answers has the theorems.
 pub mod Means
+pub mod Reach
 pub mod Answers

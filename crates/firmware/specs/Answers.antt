@@ -1,16 +1,40 @@
 -- Questions four and seven of a firmware that links the library, in the words of `demands`.
-use Prim.Native.Nat.{ℕ, _<_}
+use Prim.Native.Nat.{ℕ, _+_, _<_}
+use mathlib.Core.Path.{_≡_}
 use mathlib.Core.Bool.{Bool}
-use lib.ListN.{getD}
-use Rattle.rules.specs.Sizes.{imageBytes}
+use mathlib.Core.List.{List}
+use lib.ListN.{length, getD}
+use Rattle.rules.specs.Sizes.{imageBytes, roomStart}
+use Rattle.rules.specs.Create.{Change, place}
 use Rattle.demands.specs.Demand3.{storeAfterCut, hasLanded, CutSafe, NotesTrue}
-use Rattle.demands.specs.QuestionSeven.{Holds}
+use Rattle.demands.specs.QuestionSeven.{SameBut, Holds}
+use Rattle.board.specs.Calls.{CreateEnd, CreateCall, WriteEnd, WriteCall, CompleteCall}
 use Rattle.firmware.specs.Run.{Run, meant, Happened}
 
-pub record FirmwareAnswers : Type 0 where
+-- question four
+pub record FirmwareQuestionFour : Type 0 where
   -- after any run and any cut the store holds the landed changes, carried out singly in accepted order, and all that they asked to have before them
-  pub four : (r : Run) → Happened r → (new : ℕ → Bool) → CutSafe (meant r) new
+  pub at-any-cut : (r : Run) → Happened r → (new : ℕ → Bool) → CutSafe (meant r) new
+  -- and the notes by which that is judged are true
   pub by-true-notes : (r : Run) → Happened r → NotesTrue (meant r)
-  -- and each place of it the byte of the last accepted landed change that names it, or its opening byte where none does
-  pub seven : (r : Run) → Happened r → (new : ℕ → Bool) (p : ℕ) → p < imageBytes
+
+-- a create that answers 0 changes no byte of the image outside the range it names, and of the undo area none but the first bytes of the one room it takes
+pub record CreateReaches (image undo : List ℕ) (c : Change) (e : CreateEnd) : Type 0 where
+  pub in-image : SameBut (place c) (length (c .bytes)) image (e .image)
+  pub hard : e .hold ≡ 1 → e .undo ≡ undo
+  pub soft : (r : ℕ) → e .hold ≡ 2 + r → SameBut (roomStart r) (length (c .bytes)) undo (e .undo)
+
+-- question seven, whatever the bytes of the table are
+pub record FirmwareQuestionSeven : Type 0 where
+  pub creates : (table image undo : List ℕ) (c : Change) (e : CreateEnd) → CreateCall table image undo c e → e .refusal ≡ 0 → CreateReaches image undo c e
+  -- write changes nothing lent but the table and the block handed out (complete, ask and count are lent no more than the table)
+  pub writes : (table image undo handed : List ℕ) (b : ℕ) (e : WriteEnd) → WriteCall table image undo handed b e → (e .image ≡ image) × (e .undo ≡ undo)
+  -- and a refusal nothing at all
+  pub create-refused : (table image undo : List ℕ) (c : Change) (e : CreateEnd) → CreateCall table image undo c e → (e .refusal ≡ 0 → ⊥)
+      → (e .table ≡ table) × (e .image ≡ image) × (e .undo ≡ undo)
+  pub write-refused : (table image undo handed : List ℕ) (b : ℕ) (e : WriteEnd) → WriteCall table image undo handed b e → (e .refusal ≡ 0 → ⊥)
+      → (e .table ≡ table) × (e .handed ≡ handed)
+  pub complete-refused : (table : List ℕ) (b refusal : ℕ) (after : List ℕ) → CompleteCall table b refusal after → (refusal ≡ 0 → ⊥) → after ≡ table
+  -- on the store, after any run and any cut: a place that no landed change names holds its opening byte, any other the byte of the last accepted landed change that names it
+  pub store : (r : Run) → Happened r → (new : ℕ → Bool) (p : ℕ) → p < imageBytes
       → Holds (hasLanded new (meant r)) (r .accepted) (r .opening) p (getD (storeAfterCut new (meant r)) p 0)
