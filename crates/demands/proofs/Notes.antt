@@ -68,9 +68,6 @@ module _ (store : List ℕ) (e : length store ≡ imageBytes) (b i : ℕ) where
       hw : Whole w
       hw = a w (List·Memᴰ·head refl)
 
-      picked : Bool → List Sent
-      picked v = cond v (w ∷ those (λ w. new (w .block)) out) (those (λ w. new (w .block)) out)
-
       -- the write covers the place: all of its block is there or none of it
       by : (v : Bool) → new (w .block) ≡ v → (c : Bool) → covers (whole w) b i ≡ c
           → view (written (those (λ w. new (w .block)) out ++ L) store) b i ≡ cond (new b) (view (written (out ++ L) store) b i) (view (written L store) b i)

@@ -33,7 +33,6 @@ use Rattle.cut.specs.Changes.{Store, Change, covers}
 use Rattle.cut.specs.World as cut
 use Rattle.cut.specs.World.{State, waiting, inFlight, committed, left, putBack, takeBack, Sends, Step}
 use Rattle.cut.proofs.Facts.{same-or-other, carry-inside, carry-outside}
-use Rattle.cut.proofs.Invariant.{waits-not-done}
 use Rattle.cut.proofs.Core.{step-keeps}
 use Rattle.demands.specs.History.{History, Accepted, Sent, numbersBelow}
 use Rattle.demands.specs.Demand3.{written, sentIn, timesIn, timesSent}
@@ -48,11 +47,6 @@ waiting-word : (u : rules.State) → isWaiting u ≡ true → stateWord u ≡ wa
 waiting-word state.Free e = absurd (clash e refl)
 waiting-word (state.Waiting h) e = refl
 waiting-word (state.InFlight k) e = absurd (clash e refl)
-
-word-waiting : (u : rules.State) → stateWord u ≡ waiting → isWaiting u ≡ true
-word-waiting state.Free e = waits-not-done e refl
-word-waiting (state.Waiting h) e = refl
-word-waiting (state.InFlight k) e = absurd (let z : _≡_ {A = ℕ} 0 1 = cc in omega arith)
 
 word-flying : (u : rules.State) → stateWord u ≡ inFlight → isInFlight u ≡ true
 word-flying state.Free e = absurd (let z : _≡_ {A = ℕ} 0 1 = cc in omega arith)

@@ -38,8 +38,8 @@ pub data Holds (test : Accepted → Bool) (l : List Accepted) (opening : List �
   written : (a : Accepted) (newer older : List Accepted) → l ≡ newer ++ (a ∷ older) → test a ≡ true → names a p ≡ true
       → ((x : Accepted) → List·Memᴰ x newer → test x ≡ true → names x p ≡ false) → byte ≡ getD (a .change .bytes) (p - place (a .change)) 0 → Holds test l opening p byte
 
--- the three parts
 pub record QuestionSeven : Type 0 where
+  -- what a granted create changes of what it is lent
   pub creates : (t : Table) (image undo : List ℕ) (c : Change) (o : Creation) → Creates t image undo c o → createNumber (o .answer) ≡ 0 → CreateReaches image undo c o
   -- write changes nothing lent but the block handed out (complete, ask and count are lent nothing)
   pub writes : (t : Table) (image undo block : List ℕ) (b : ℕ) (o : Writing) → Writes t image undo block b o → (o .image ≡ image) × (o .undo ≡ undo)

@@ -39,10 +39,6 @@ pub decides : {P : Type 0} (b : Bool) → (b ≡ true → P) → (b ≡ false �
 decides true y n = y refl
 decides false y n = n refl
 
-pub decides-not : {P Q : Type 0} (b : Bool) → Decides P b → (P → Q → ⊥) → ((P → ⊥) → Q) → Decides Q (not b)
-decides-not true d n y = n d
-decides-not false d n y = y d
-
 -- both, and one of two
 pub and-true : (a b : Bool) → (a && b) ≡ true → (a ≡ true) × (b ≡ true)
 and-true true b e = (refl, e)

@@ -167,7 +167,7 @@ pub below-pass : (p : ℕ → Bool) (i : ℕ) → p i ≡ false → setBelow p i
 unfolding setBelow
 below-pass p i e = rw (add-one, e) (omega arith)
 
-pub below-with : (p : ℕ → Bool) (i : ℕ) → i < 64 → p i ≡ true → setOf (λ k. has (setBelow p i) k || eqb k i) ≡ setBelow p (i + 1)
+below-with : (p : ℕ → Bool) (i : ℕ) → i < 64 → p i ≡ true → setOf (λ k. has (setBelow p i) k || eqb k i) ≡ setBelow p (i + 1)
 below-with p i l e =
     sym (is-set (setBelow p (i + 1)) (λ k. has (setBelow p i) k || eqb k i)
     (lt-of-lt-of-le (below-lt p (i + 1)) (pow-mono {j = 64} (omega arith)))
@@ -194,18 +194,6 @@ with-if-below p i m false e l h =
     with-none m (rw e (lt-of-lt-of-le (below-lt p i) (pow-mono {j = 64} (omega arith)))) ∙ e ∙ below-pass p i (sym h)
 
 -- ---- how many pass
-
-pub many-none : (p : ℕ → Bool) → howMany p 0 ≡ 0
-unfolding howMany
-many-none p = refl
-
-pub many-more : (p : ℕ → Bool) (i : ℕ) → p i ≡ true → howMany p (i + 1) ≡ howMany p i + 1
-unfolding howMany
-many-more p i e = rw (add-one i, e)
-
-pub many-pass : (p : ℕ → Bool) (i : ℕ) → p i ≡ false → howMany p (i + 1) ≡ howMany p i
-unfolding howMany
-many-pass p i e = rw (add-one, e) (add-zero (howMany p i))
 
 one-le : (a b : Bool) → (a ≡ true → b ≡ true) → cond a 1 0 ≤ cond b 1 0
 one-le true b f = rw (f refl) (omega arith)

@@ -1,6 +1,10 @@
 // The slots with a block's in-flight patches committed: their slots free, and no patch after them.
 ghost use mathlib.Core.Path.{_≡_};
-ghost use Rattle.moves.specs.Steps.{landedSlot, landedSlots};
+ghost use Prim.Native.Nat.{ℕ};
+ghost use Rattle.masks.specs.Sets.{setOf};
+ghost use Rattle.rules.specs.Table.{fliesOn};
+ghost use Rattle.rules.specs.Complete.{completedSlots};
+ghost use Rattle.moves.specs.Steps.{landedSlot};
 use crate::slot::free;
 use crate::slot::with_befores;
 use rules::Slot;
@@ -21,9 +25,9 @@ fn landed_slot(s: Slot, landed: u64, commits: bool) -> Slot
     s
 }
 
-// All slots so; `landed` is the set of the block's patches in flight.
+// All slots so; `landed` is the set of a block's patches in flight.
 pub fn completed(slots: [Slot; 64], landed: u64) -> [Slot; 64]
-    ensures { λ r. ⌜ r ≡ landedSlots slots landed ⌝ }
+    ensures { λ r. ⌜ ((b : ℕ) → landed ≡ setOf (fliesOn slots b) → r ≡ completedSlots slots b) ⌝ }
 {
     let mut next = slots;
     for i in 0..64 {

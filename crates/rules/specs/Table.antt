@@ -41,12 +41,9 @@ withSlots ss t = record { first = t .first; next = t .next; slots = ss }
 abbrev pub withNext : ℕ → Table → Table
 withNext n t = record { first = t .first; next = n; slots = t .slots }
 
--- slot i is used; it holds a waiting patch
+-- slot i is used
 abbrev pub used : List Slot → ℕ → Bool
 used ss i = isUsed (slotAt ss i .state)
-
-abbrev pub waits : List Slot → ℕ → Bool
-waits ss i = isWaiting (slotAt ss i .state)
 
 -- slot i holds a waiting patch of block b; one in flight; a waiting patch that is hard
 abbrev pub waitsOn : List Slot → ℕ → ℕ → Bool

@@ -11,10 +11,10 @@ use Rattle.slots.specs.Words.{PatchesOn}
 
 module _ {ss : List Slot} {b : ℕ} {p : Patches} (on : PatchesOn ss b p) where
   pub some-flies : (p .in_flight ≡ 0 → ⊥) → Flies ss b
-  some-flies = set-some (fliesOn ss b) (on .flying)
+  some-flies = set-some (fliesOn ss b) (on .in-flight)
 
   pub none-flies : p .in_flight ≡ 0 → Flies ss b → ⊥
-  none-flies e f = set-none (fliesOn ss b) (on .flying) e (f .0) (f .1) (f .2)
+  none-flies e f = set-none (fliesOn ss b) (on .in-flight) e (f .0) (f .1) (f .2)
 
   pub some-waits : (p .waiting ≡ 0 → ⊥) → Waits ss b
   some-waits = set-some (waitsOn ss b) (on .waiting)

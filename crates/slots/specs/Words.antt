@@ -51,7 +51,7 @@ RoomsBelow ss = Gathered (HasRoom ss)
 pub record PatchesOn (ss : List Slot) (b : ℕ) (p : Patches) : Type 0 where
   pub waiting : p .waiting ≡ setOf (waitsOn ss b)
   pub hard : p .hard ≡ setOf (hardOn ss b)
-  pub flying : p .in_flight ≡ setOf (fliesOn ss b)
+  pub in-flight : p .in_flight ≡ setOf (fliesOn ss b)
 
 -- v says whether the table is sound and, where it is, which slots are in use and which rooms are taken
 pub record IsVerdict (first next : ℕ) (ss : List Slot) (v : Verdict) : Type 0 where

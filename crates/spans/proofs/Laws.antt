@@ -1,12 +1,12 @@
 -- Laws of splice and part: lengths, the byte at a place, wholes, and a part of a part. Every proof about an image, an undo room or a
 -- block leans on these. A law asks that something fits only where it does not hold otherwise. Assumes nothing.
 use Prim.Native.Nat.{ℕ, zero, suc, _+_, _-_, _≤_, _<_, min}
-use mathlib.Core.Path.{_≡_, refl, sym, ap, _∙_}
+use mathlib.Core.Path.{_≡_, refl, sym, ap}
 use mathlib.Core.List.{List, [], _∷_}
 use native.Mathlib.Nat.{suc-add, zero-add, sub-zero, suc-sub-suc}
 use native.Mathlib.Omega.{arith}
-use lib.ListN.{length, getD, set, take, drop, length-take, length-drop}
-use lib.Seq.{take-nil, take-take, drop-drop, take-length, getD-take, getD-drop}
+use lib.ListN.{length, getD, set, take, length-take, length-drop}
+use lib.Seq.{take-nil, take-length, getD-take, getD-drop}
 use Rattle.spans.specs.Spans.{splice, part}
 
 -- ---- bytes laid over bytes
@@ -91,13 +91,3 @@ part-in xs at n i l = rw (getD-take, getD-drop)
 
 pub part-whole : (xs : List ℕ) → part xs 0 (length xs) ≡ xs
 part-whole xs = take-length xs
-
--- past what is taken nothing is asked
-take-drop : (m from n : ℕ) (xs : List ℕ) → from + m ≤ n → take m (drop from (take n xs)) ≡ take m (drop from xs)
-take-drop m zero n xs l = take-take m n xs (omega arith)
-take-drop m (suc from) n [] l = rw (take-nil n)
-take-drop m (suc from) zero (x ∷ xs) l = absurd (omega arith)
-take-drop m (suc from) (suc n) (x ∷ xs) l = take-drop m from n xs (omega arith)
-
-pub part-within : (xs : List ℕ) (at n from m : ℕ) → from + m ≤ n → part (part xs at n) from m ≡ part xs (at + from) m
-part-within xs at n from m l = take-drop m from n (drop at xs) l ∙ rw drop-drop

@@ -13,7 +13,6 @@ use Rattle.rules.specs.Table as rules
 use Rattle.rules.specs.Table.{Sound, withSlots}
 use Rattle.rules.specs.Complete.{completed}
 use Rattle.rules.specs.Calls.{Completes}
-use Rattle.moves.proofs.Landed.{landed-completed}
 use Rattle.cache.specs.Seen.{seen}
 use Rattle.cache.proofs.Sent.{complete-unsound, complete-no-block, complete-none, complete-granted}
 use Rattle.cache.proofs.Table.complete.Statement.{statement}
@@ -64,7 +63,7 @@ returns-4 c =
     let a = e .before .before .before .before .args in
     let on = f .before .patches-on .ensures in
     subst (λ (t : rules.Table). Completes (seen (a .self)) (a .block) (record { answer = answer.Granted; table = t }))
-    (sym (c .with-slots .ensures ∙ ap (λ (ss : List Slot). withSlots ss (seen (a .self))) (c .before .completed .ensures ∙ landed-completed (a .self .slots) (a .block) (on .flying))))
+    (sym (c .with-slots .ensures ∙ ap (λ (ss : List Slot). withSlots ss (seen (a .self))) (c .before .completed .ensures (a .block) (on .in-flight))))
     (complete-granted (seen (a .self)) (a .block) (sound-here (e .before)) (block-here e) (some-flies on (f .if3 .left)))
 
 pub complete-spec : {M : Type 1} → statement M

@@ -111,7 +111,7 @@ returns c =
     record {
       waiting = passed .waits ∙ ap (setBelow (waitsOn (a .t1) (a .block))) e;
       hard = passed .hards ∙ ap (setBelow (hardOn (a .t1) (a .block))) e;
-      flying = passed .flies ∙ ap (setBelow (fliesOn (a .t1) (a .block))) e;
+      in-flight = passed .flies ∙ ap (setBelow (fliesOn (a .t1) (a .block))) e;
     }
 
 pub patches-on-spec : {M : Type 1} → statement M
