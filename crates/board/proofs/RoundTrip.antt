@@ -13,7 +13,7 @@ use Rattle.rules.specs.declared.State.the-variants as state
 use Rattle.rules.specs.declared.Slot.{Slot}
 use Rattle.rules.specs.Sizes.{slots}
 use Rattle.rules.specs.Slots.{roomOf, freeSlot}
-use Rattle.rules.specs.Table.{Table, slotAt}
+use Rattle.rules.specs.Table.{Table, slotAt, tableOf}
 use Rattle.rules.proofs.SlotsBy.{slots-are}
 use Rattle.board.specs.Layout.{slotStart, numberAt, stateOf, slotIn, tableIn, IsTable, inBytes, tagOf, slotBytes, slotsBytes, bytesOf, SlotFits, TableFits}
 use Rattle.board.proofs.Laid.{length-slots, slots-append, length-table}
@@ -62,7 +62,8 @@ state-back (state.InFlight kind.Soft) l = refl
 abbrev slotOf : State → ℕ → ℕ → ℕ → ℕ → ℕ → Slot
 slotOf u n b o l m = record { state = u; number = n; block = b; offset = o; len = l; befores = m }
 
-same-slot : {u v : State} {n n′ b b′ o o′ l l′ m m′ : ℕ} → u ≡ v → n ≡ n′ → b ≡ b′ → o ≡ o′ → l ≡ l′ → m ≡ m′ → slotOf u n b o l m ≡ slotOf v n′ b′ o′ l′ m′
+-- slots that agree field by field are one
+pub same-slot : {u v : State} {n n′ b b′ o o′ l l′ m m′ : ℕ} → u ≡ v → n ≡ n′ → b ≡ b′ → o ≡ o′ → l ≡ l′ → m ≡ m′ → slotOf u n b o l m ≡ slotOf v n′ b′ o′ l′ m′
 same-slot p q r s t w = cc
 
 slot-back : (s : Slot) (rest : List ℕ) → SlotFits s → slotIn (slotBytes s ++ rest) 0 ≡ s
@@ -106,9 +107,6 @@ tag-there t i w =
     subst (λ (x : ℕ). x ≤ 4)
     (sym (ap₂ (λ (bytes : List ℕ) (at : ℕ). numberAt bytes at 4) (w .whole) (sym (w .start)) ∙ number-first (w .pre) (slotBytes (slotAt (t .slots) i) ++ w .rest) 4 ∙ tag-back (slotAt (t .slots) i) (w .rest)))
     (tag-most (slotAt (t .slots) i .state))
-
-abbrev tableOf : ℕ → ℕ → List Slot → Table
-tableOf first next ss = record { first = first; next = next; slots = ss }
 
 same-table : {f f′ n n′ : ℕ} {ss ss′ : List Slot} → f ≡ f′ → n ≡ n′ → ss ≡ ss′ → tableOf f n ss ≡ tableOf f′ n′ ss′
 same-table p q r = cc

@@ -1,10 +1,8 @@
 -- `read::slot_in` meets its contract: field by field. Assumes nothing.
-use Prim.Native.Nat.{ℕ}
-use mathlib.Core.Path.{_≡_, ap₂, _∙_}
-use Rattle.rules.specs.declared.State.{State}
-use Rattle.rules.specs.declared.Slot.{Slot}
+use mathlib.Core.Path.{ap₂, _∙_}
 use Rattle.board.specs.Layout.{stateOf, slotIn}
 use borrow.Author.Needs.{needs}
+use Rattle.board.proofs.RoundTrip.{same-slot}
 use Rattle.board.proofs.read.slot_in.Statement.{statement}
 use Rattle.board.proofs.read.slot_in.Tie as tie
 
@@ -49,12 +47,6 @@ add-befores-at c = search needs
 
 befores-at-requires : tie.Need-befores-at-requires
 befores-at-requires c κs = search needs
-
--- slots that agree field by field are one
-same-slot : {u u′ : State} {n n′ b b′ o o′ l l′ m m′ : ℕ} → u ≡ u′ → n ≡ n′ → b ≡ b′ → o ≡ o′ → l ≡ l′ → m ≡ m′
-    → _≡_ {A = Slot} (record { state = u; number = n; block = b; offset = o; len = l; befores = m })
-    (record { state = u′; number = n′; block = b′; offset = o′; len = l′; befores = m′ })
-same-slot state number block offset len befores = rw (state, number, block, offset, len, befores)
 
 returns : tie.Need-returns
 unfolding slotIn
