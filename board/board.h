@@ -5,7 +5,7 @@
  *
  * Asked of C, as of any callee that takes a pointer with a length: a pointer is not null and is valid for its length,
  * what is passed as an array of 32-bit or 64-bit numbers is aligned, and no two of a call's pointers reach the same
- * byte, unless both are to const. No call keeps a pointer, allocates, or calls out.
+ * byte, unless both are to const. No call keeps a pointer or allocates, and none calls anything but C's memcpy.
  *
  *  1  a lent buffer has not its exact size              9  no free slot
  *  2  no table, or a table that is not sound           10  would be soft, and all 16 rooms are taken

@@ -1,6 +1,7 @@
 -- What a change is, and what a store holds once changes are carried out.
--- The first of the three files that a reader of the theorem has to believe. It speaks of bytes and of the order in
--- which changes were accepted, and of no cache: whoever carries changes out singly, one after the other, gets `after`.
+-- The first of the three files that a reader of this crate's theorem has to believe (question four is said in words of its
+-- own, in `demands`). It speaks of bytes and of the order in which changes were accepted, and of no cache: whoever carries
+-- changes out singly, one after the other, gets `after`.
 use Prim.Native.Nat.{ℕ, _+_, _-_}
 use mathlib.Core.Path.{_≡_}
 use mathlib.Core.Bool.{Bool, true, cond, _&&_}

@@ -1,5 +1,5 @@
 -- What a power cut leaves, and what is promised of it.
--- The third file that a reader has to believe: `CutSafe` is the promise, and `Place` says what it means for one byte.
+-- The third file that a reader of the theorem has to believe: `CutSafe` is the promise, and `Place` says what it means for one byte.
 use Prim.Native.Nat.{ℕ}
 use mathlib.Core.Path.{_≡_}
 use mathlib.Core.Bool.{Bool, true, false, cond}
