@@ -23,21 +23,27 @@ pub enum State {
     Committed,
 }
 
-extern "C" {
-    fn board_open(table: *mut u8, table_len: usize, first: u32) -> u32;
-    fn board_create(
-        table: *mut u8, table_len: usize, image: *mut u8, image_len: usize, undo: *mut u8, undo_len: usize,
-        block: u32, offset: u32, bytes: *const u8, bytes_len: usize, named: *const u32, named_len: usize,
-        number: *mut u32, hold: *mut u32,
-    ) -> u32;
-    fn board_write(
-        table: *mut u8, table_len: usize, image: *const u8, image_len: usize, undo: *const u8, undo_len: usize,
-        handed: *mut u8, handed_len: usize, block: u32, set: *mut u64,
-    ) -> u32;
-    fn board_complete(table: *mut u8, table_len: usize, block: u32) -> u32;
-    fn board_ask(table: *const u8, table_len: usize, asked: u32, state: *mut u32) -> u32;
-    fn board_count(table: *const u8, table_len: usize, block: u32, count: *mut u32) -> u32;
+/// The six functions as board.h has them, for buffers that are no arrays of the exact size: those are refused by number.
+/// Nothing checks these declarations against the archive; the bench of the repository calls through them.
+pub mod raw {
+    unsafe extern "C" {
+        pub fn board_open(table: *mut u8, table_len: usize, first: u32) -> u32;
+        pub fn board_create(
+            table: *mut u8, table_len: usize, image: *mut u8, image_len: usize, undo: *mut u8, undo_len: usize,
+            block: u32, offset: u32, bytes: *const u8, bytes_len: usize, named: *const u32, named_len: usize,
+            number: *mut u32, hold: *mut u32,
+        ) -> u32;
+        pub fn board_write(
+            table: *mut u8, table_len: usize, image: *const u8, image_len: usize, undo: *const u8, undo_len: usize,
+            handed: *mut u8, handed_len: usize, block: u32, set: *mut u64,
+        ) -> u32;
+        pub fn board_complete(table: *mut u8, table_len: usize, block: u32) -> u32;
+        pub fn board_ask(table: *const u8, table_len: usize, asked: u32, state: *mut u32) -> u32;
+        pub fn board_count(table: *const u8, table_len: usize, block: u32, count: *mut u32) -> u32;
+    }
 }
+
+use raw::{board_ask, board_complete, board_count, board_create, board_open, board_write};
 
 fn granted<T>(refusal: u32, answer: T) -> Result<T, u32> {
     if refusal == 0 { Ok(answer) } else { Err(refusal) }
