@@ -36,16 +36,9 @@ pub trait Library {
     fn ask(&self, table: &[u8], asked: u32, state: &mut u32) -> u32;
 
     fn count(&self, table: &[u8], block: u32, count: &mut u32) -> u32;
-}
 
-/// The library under test: libboard.a.
-#[cfg(not(feature = "mock"))]
-pub fn under_test() -> (&'static str, Box<dyn Library>) {
-    ("libboard.a", Box::new(crate::board::Board))
-}
-
-/// Built with the feature "mock": the model stands in for the library.
-#[cfg(feature = "mock")]
-pub fn under_test() -> (&'static str, Box<dyn Library>) {
-    ("the model standing in (mock)", Box::new(crate::mock::Mock(crate::model::Right)))
+    /// What the last call did to bytes that were not lent to be written, where that is watched.
+    fn harm(&self) -> Option<&'static str> {
+        None
+    }
 }

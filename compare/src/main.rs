@@ -3,8 +3,10 @@
 #![deny(unsafe_code)]
 
 mod bench;
-#[cfg(not(feature = "mock"))]
-#[allow(unsafe_code)]
+#[cfg(linked)]
+#[allow(unsafe_code, dead_code)]
+#[path = "../../board/board.rs"]
+#[rustfmt::skip] // the shipped file has its own layout
 mod board;
 mod bytes;
 mod cover;
@@ -13,20 +15,24 @@ mod drive;
 mod faults;
 mod fixed;
 mod library;
+#[cfg(linked)]
+#[allow(unsafe_code)]
+mod linked;
 mod mock;
 mod model;
 mod orders;
 mod pasted;
-mod plain;
-mod plain_bytes;
+mod pipe;
 mod random;
 mod run;
 mod shrink;
 mod steps;
 mod table;
 mod tables;
+mod through;
 mod twoways;
 mod watch;
+mod words;
 mod wrong;
 
 use drive::{Driver, Failed};
@@ -35,48 +41,66 @@ use model::Right;
 use run::Pair;
 use std::process::ExitCode;
 use std::time::{Duration, Instant};
+use through::Through;
+use words::Command;
 
 const QUICK_SEED: u64 = 1;
 const QUICK_CALLS: u64 = 500_000;
-const LONG_SEED: u64 = 2;
-const PLAIN_CALLS: u64 = 400_000;
-const PLAIN_SEED: u64 = 3;
+const QUICK_CALLS_PIPED: u64 = 50_000;
 
 fn main() -> ExitCode {
     let words: Vec<String> = std::env::args().skip(1).collect();
-    let number = |place: usize| words.get(place).and_then(|word| word.parse::<u64>().ok());
-    let passed = match (words.first().map(String::as_str), number(1)) {
-        (Some("quick"), _) => quick(),
-        (Some("long"), Some(calls)) => long(calls, number(2).unwrap_or(LONG_SEED)),
-        (Some("one"), Some(seed)) => one(seed),
-        (Some("pasted"), _) => pasted_orders(),
-        (Some("plain"), calls) => plain_program(calls.unwrap_or(PLAIN_CALLS)),
-        (Some("bench"), _) => bench::run(),
-        (Some("once"), _) => bench::once(),
-        (Some("wrong"), _) => wrong::run(words.iter().any(|word| word == "show")),
-        _ => {
-            println!(
-                "commands: quick | long N [SEED] | one SEED | pasted | wrong [show] | plain [N] | bench | once"
-            );
-            false
+    let (command, way) = match words::asked(&words) {
+        Ok((Command::Help, _)) => {
+            println!("{}", words::USAGE);
+            return ExitCode::SUCCESS;
+        }
+        Ok(asked) => asked,
+        Err(wrong) => {
+            eprintln!("{wrong}\n{}", words::USAGE);
+            return ExitCode::from(2);
         }
     };
-    println!("{}", if passed { "passed" } else { "FAILED" });
+    let passed = run(command, way).unwrap_or_else(|why| {
+        println!("{why}");
+        false
+    });
+    let stood_in = match way {
+        Through::Link | Through::Pipe => "",
+        Through::Plain => " (the plain program in the library's place)",
+        Through::Model => " (the model in the library's place)",
+    };
+    println!("{}{stood_in}", if passed { "passed" } else { "FAILED" });
     if passed { ExitCode::SUCCESS } else { ExitCode::FAILURE }
 }
 
-fn quick() -> bool {
-    let (name, library) = library::under_test();
-    println!("library: {name}");
-    let pair = Pair { library: &*library, model: Some(&Mock(Right)) };
-    fixed_cases(pair) && twoways::agree(QUICK_SEED) && orders(pair, QUICK_SEED, QUICK_CALLS)
+/// Whether what was asked for has passed; or why it could not be tried.
+fn run(command: Command, way: Through) -> Result<bool, String> {
+    let pair = |library| Pair { library, model: Some(&Mock(Right)) };
+    let under_test = || {
+        let (name, library) = through::library(way)?;
+        println!("library: {name}");
+        Ok::<_, String>(library)
+    };
+    Ok(match command {
+        Command::Help => true,
+        Command::Quick => quick(pair(&*under_test()?), way),
+        Command::Long { calls, seed } => {
+            let library = under_test()?;
+            fixed_cases(pair(&*library)) && orders(pair(&*library), seed, calls)
+        }
+        Command::One { seed } => one(pair(&*under_test()?), seed),
+        Command::Pasted => pasted_orders(pair(&*under_test()?)),
+        Command::Wrong { show } => wrong::run(show),
+        Command::Once { orders } => bench::once(&*through::library(way)?.1, orders),
+        Command::Bench => bench::run().map(|()| true)?,
+    })
 }
 
-fn long(calls: u64, seed: u64) -> bool {
-    let (name, library) = library::under_test();
-    println!("library: {name}");
-    let pair = Pair { library: &*library, model: Some(&Mock(Right)) };
-    fixed_cases(pair) && orders(pair, seed, calls)
+fn quick(pair: Pair, way: Through) -> bool {
+    let piped = matches!(way, Through::Pipe | Through::Plain);
+    let calls = if piped { QUICK_CALLS_PIPED } else { QUICK_CALLS };
+    fixed_cases(pair) && twoways::agree(QUICK_SEED) && orders(pair, QUICK_SEED, calls)
 }
 
 fn fixed_cases(pair: Pair) -> bool {
@@ -127,17 +151,8 @@ fn report(pair: Pair, failed: Failed) {
     shrink::print(&order, &failure);
 }
 
-/// Checks the plain program of the benchmark against the model.
-fn plain_program(calls: u64) -> bool {
-    println!("library: the plain program of the benchmark");
-    let pair = Pair { library: &plain_bytes::Plain, model: Some(&Mock(Right)) };
-    fixed_cases(pair) && orders(pair, PLAIN_SEED, calls)
-}
-
 /// Runs the order of one seed again and says each call before it is made.
-fn one(seed: u64) -> bool {
-    let (_, library) = library::under_test();
-    let pair = Pair { library: &*library, model: Some(&Mock(Right)) };
+fn one(pair: Pair, seed: u64) -> bool {
     let mut driver = Driver::new(pair);
     driver.show_calls = true;
     match driver.order(seed) {
@@ -149,9 +164,7 @@ fn one(seed: u64) -> bool {
     }
 }
 
-fn pasted_orders() -> bool {
-    let (_, library) = library::under_test();
-    let pair = Pair { library: &*library, model: Some(&Mock(Right)) };
+fn pasted_orders(pair: Pair) -> bool {
     let mut passed = true;
     for (i, order) in pasted::orders().iter().enumerate() {
         match run::replay(pair, order) {

@@ -70,11 +70,11 @@ impl<'a> Run<'a> {
         let bytes_before = self.lent.table.clone();
         let answer = play(self.pair.library, &mut self.lent, &step.call);
         let mut other = None;
-        let mut what = None;
+        let mut what = self.pair.library.harm().map(String::from);
         if let Some(model) = self.pair.model {
             self.beside.resize(&step.odd);
             let wanted = play(model, &mut self.beside, &step.call);
-            what = difference(&answer, &wanted, &self.lent, &self.beside);
+            what = what.or_else(|| difference(&answer, &wanted, &self.lent, &self.beside));
             other = Some(wanted);
         }
         if let Some(before) = before {
