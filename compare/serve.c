@@ -17,7 +17,7 @@
 
 #include "../board/board.h"
 
-#define LONGEST 65536u /* of a buffer, of the data, and of the names in bytes */
+#define LONGEST 524288u /* of a buffer, of the data, and of the names in bytes */
 #define BESIDE 64u     /* bytes watched before and after a buffer */
 #define WATCHED 0xC3u
 #define UNWRITTEN 0xDEADBEEFu /* stands in each number lent for an answer, so that one left unwritten shows */

@@ -1,22 +1,21 @@
 //! Time per call of the library and of the plain program on the same recorded orders, each behind a pipe and timed on its own
 //! side of it; and one pass without a clock, for a tool that counts instructions.
 
-use crate::cover::Cover;
-use crate::library::Library;
-use crate::mock::Mock;
-use crate::model::Right;
-use crate::orders::{Maker, Taste};
-use crate::pipe::Pipe;
-use crate::random::Random;
-use crate::run::{Order, Pair, Run};
-use crate::steps::{Lent, open, play};
-use crate::table::Kind;
-use crate::through;
+use crate::judge::cover::Cover;
+use crate::judge::run::{Order, Pair, Run};
+use crate::library::calls::Library;
+use crate::library::pipe::Pipe;
+use crate::library::through;
+use crate::model::mock::Mock;
+use crate::model::rules::Right;
+use crate::model::table::{KINDS, Kind};
+use crate::orders::maker::{Maker, Taste};
+use crate::orders::random::Random;
+use crate::orders::steps::{Lent, open, play};
 
 const ORDERS: u64 = 200;
 const CALLS: usize = 200;
 const PASSES: usize = 5;
-const KINDS: [Kind; 6] = [Kind::Open, Kind::Create, Kind::Write, Kind::Complete, Kind::Ask, Kind::Count];
 
 /// An order without faults, chosen with the model's answers.
 fn recorded(seed: u64) -> Order {

@@ -3,52 +3,33 @@
 #![deny(unsafe_code)]
 
 mod bench;
-#[cfg(linked)]
-#[allow(unsafe_code, dead_code)]
-#[path = "../../board/board.rs"]
-#[rustfmt::skip] // the shipped file has its own layout
-mod board;
-mod bytes;
-mod cover;
-mod cut;
-mod drive;
-mod faults;
-mod fixed;
+mod cases;
+mod judge;
 mod library;
-#[cfg(linked)]
-#[allow(unsafe_code)]
-mod linked;
-mod mock;
 mod model;
 mod orders;
-mod pasted;
-mod pipe;
-mod random;
-mod run;
-mod shrink;
-mod steps;
-mod table;
-mod tables;
-mod through;
-mod twoways;
-mod watch;
 mod words;
-mod wrong;
 
-use drive::{Driver, Failed};
-use mock::Mock;
-use model::Right;
-use run::Pair;
+use cases::{fixed, pasted, sweep, wrong};
+use judge::drive::{Driver, Failed};
+use judge::run::Pair;
+use judge::{run, shrink};
+use library::through::{self, Through};
+use model::mock::Mock;
+use model::rules::Right;
+use model::twoways;
 use std::process::ExitCode;
 use std::time::{Duration, Instant};
-use through::Through;
 use words::Command;
 
 const QUICK_SEED: u64 = 1;
 const QUICK_CALLS: u64 = 500_000;
 const QUICK_CALLS_PIPED: u64 = 50_000;
+/// With any seed so many calls reach all that is on the list.
+const ENOUGH_CALLS: u64 = 300_000;
 
 fn main() -> ExitCode {
+    end_quietly_on_a_closed_pipe();
     let words: Vec<String> = std::env::args().skip(1).collect();
     let (command, way) = match words::asked(&words) {
         Ok((Command::Help, _)) => {
@@ -61,7 +42,7 @@ fn main() -> ExitCode {
             return ExitCode::from(2);
         }
     };
-    let passed = run(command, way).unwrap_or_else(|why| {
+    let passed = perform(command, way).unwrap_or_else(|why| {
         println!("{why}");
         false
     });
@@ -74,8 +55,21 @@ fn main() -> ExitCode {
     if passed { ExitCode::SUCCESS } else { ExitCode::FAILURE }
 }
 
+/// Who reads the output may stop reading: that is no fault of the run, and no reason for a message.
+fn end_quietly_on_a_closed_pipe() {
+    let usual = std::panic::take_hook();
+    std::panic::set_hook(Box::new(move |panic| {
+        let closed =
+            panic.payload().downcast_ref::<String>().is_some_and(|said| said.contains("Broken pipe"));
+        if closed {
+            std::process::exit(1);
+        }
+        usual(panic);
+    }));
+}
+
 /// Whether what was asked for has passed; or why it could not be tried.
-fn run(command: Command, way: Through) -> Result<bool, String> {
+fn perform(command: Command, way: Through) -> Result<bool, String> {
     let pair = |library| Pair { library, model: Some(&Mock(Right)) };
     let under_test = || {
         let (name, library) = through::library(way)?;
@@ -85,10 +79,7 @@ fn run(command: Command, way: Through) -> Result<bool, String> {
     Ok(match command {
         Command::Help => true,
         Command::Quick => quick(pair(&*under_test()?), way),
-        Command::Long { calls, seed } => {
-            let library = under_test()?;
-            fixed_cases(pair(&*library)) && orders(pair(&*library), seed, calls)
-        }
+        Command::Long { calls, seed } => all_cases(pair(&*under_test()?), seed, calls, ENOUGH_CALLS),
         Command::One { seed } => one(pair(&*under_test()?), seed),
         Command::Pasted => pasted_orders(pair(&*under_test()?)),
         Command::Wrong { show } => wrong::run(show),
@@ -100,32 +91,45 @@ fn run(command: Command, way: Through) -> Result<bool, String> {
 fn quick(pair: Pair, way: Through) -> bool {
     let piped = matches!(way, Through::Pipe | Through::Plain);
     let calls = if piped { QUICK_CALLS_PIPED } else { QUICK_CALLS };
-    fixed_cases(pair) && twoways::agree(QUICK_SEED) && orders(pair, QUICK_SEED, calls)
+    twoways::agree(QUICK_SEED) && all_cases(pair, QUICK_SEED, calls, 0)
 }
 
-fn fixed_cases(pair: Pair) -> bool {
-    let result = fixed::run(pair);
-    match &result {
-        Ok(rows) => println!("fixed cases: {rows} rows as document 01 has them"),
-        Err(what) => println!("fixed cases: {what}"),
+/// The fixed cases, the sweep over tables, and orders for at least so many calls. What is on the list and was not reached fails the
+/// run if it had this many calls.
+fn all_cases(pair: Pair, seed: u64, calls: u64, enough: u64) -> bool {
+    let mut driver = Driver::new(pair);
+    for (run, what) in [
+        (fixed::run(pair, &mut driver.cover), "fixed cases: rows as document 01 has them"),
+        (
+            sweep::run(pair, &mut driver.cover),
+            "tables: broken in every way in every slot, and at every bound",
+        ),
+    ] {
+        match run {
+            Ok(made) => println!("{what}, {made} calls"),
+            Err((call, wrong)) => {
+                println!("{what}: at call {call}, {wrong}");
+                return false;
+            }
+        }
     }
-    result.is_ok()
+    orders(&mut driver, seed, calls) && reached(&driver, calls >= enough)
 }
 
 /// Runs orders for at least so many calls, with a line of progress every few seconds.
-fn orders(pair: Pair, seed: u64, calls: u64) -> bool {
+fn orders(driver: &mut Driver, seed: u64, calls: u64) -> bool {
     let start = Instant::now();
     let mut last = start;
-    let mut driver = Driver::new(pair);
     driver.show_seeds = std::env::var_os("SHOW_SEEDS").is_some();
     let result = driver.run(seed, calls, &mut |sums| {
         if last.elapsed() > Duration::from_secs(5) {
-            println!("  {} calls, {} orders, {:.0?}", sums.calls, sums.orders, start.elapsed());
+            let left = start.elapsed().mul_f64(calls.saturating_sub(sums.calls) as f64 / sums.calls as f64);
+            println!("  {} of {calls} calls, {} orders, {left:.0?} left", sums.calls, sums.orders);
             last = Instant::now();
         }
     });
     if let Err(failed) = result {
-        report(pair, *failed);
+        report(driver.pair, *failed);
         return false;
     }
     let sums = &driver.sums;
@@ -135,12 +139,23 @@ fn orders(pair: Pair, seed: u64, calls: u64) -> bool {
         "{} orders drained to the last patch, {} stuck; {speed:.0} calls a second",
         sums.drained, sums.stuck
     );
+    true
+}
+
+/// Prints what was reached; false when something was not, though there were calls enough for it.
+fn reached(driver: &Driver, enough: bool) -> bool {
     driver.cover.print();
     let missing = driver.cover.missing();
     for name in &missing {
         println!("NOT REACHED: {name}");
     }
-    missing.is_empty()
+    if !missing.is_empty() && !enough {
+        println!(
+            "{} on the list not reached: fewer than {ENOUGH_CALLS} calls are too few for all of it",
+            missing.len()
+        );
+    }
+    missing.is_empty() || !enough
 }
 
 fn report(pair: Pair, failed: Failed) {
@@ -177,4 +192,39 @@ fn pasted_orders(pair: Pair) -> bool {
         }
     }
     passed
+}
+
+#[cfg(test)]
+mod tests {
+    use super::*;
+    use crate::judge::cover::Cover;
+
+    fn cases_pass(library: &dyn library::calls::Library) {
+        let pair = Pair { library, model: Some(&Mock(Right)) };
+        let mut cover = Cover::default();
+        assert_eq!(fixed::run(pair, &mut cover).map_err(|(_, what)| what).err(), None);
+        assert_eq!(sweep::run(pair, &mut cover).map_err(|(_, what)| what).err(), None);
+    }
+
+    #[test]
+    fn fixed_cases_and_tables_on_the_library() {
+        cases_pass(&*through::library(through::USUAL).expect("the library").1);
+    }
+
+    #[test]
+    fn the_plain_program() {
+        let (_, plain) = through::library(Through::Plain).expect("the plain program");
+        cases_pass(&*plain);
+        assert!(quick(Pair { library: &*plain, model: Some(&Mock(Right)) }, Through::Plain));
+    }
+
+    #[test]
+    fn two_ways_to_the_largest_set() {
+        assert!(twoways::agree(QUICK_SEED));
+    }
+
+    #[test]
+    fn every_wrong_model_is_caught() {
+        assert!(wrong::run(false));
+    }
 }

@@ -1,6 +1,6 @@
 //! The words of the command line: what is asked for, and which way to the library.
 
-use crate::through::{Through, USUAL};
+use crate::library::through::{Through, USUAL};
 
 pub const USAGE: &str = "\
 usage: compare COMMAND [WAY]

@@ -6,7 +6,7 @@
 //! Sets are sets of slot numbers, not masks. The largest set that may go is found by trying every
 //! subset when few patches wait, else by following befores. No striking in rounds is done here.
 
-use crate::table::*;
+use crate::model::table::*;
 use std::collections::BTreeSet;
 
 /// Puts bytes into a lent buffer from a place on.
@@ -59,36 +59,53 @@ pub trait Model {
 
     // ---- Refusals: the table "holds when", and each call's tests in rising number ----
 
-    fn tests(&self, kind: Kind) -> &'static [Refusal] {
+    fn tests(&self, kind: Kind) -> Vec<Refusal> {
+        use Refusal::*;
         match kind {
-            Kind::Open => &[15],
-            Kind::Create => &[1, 2, 3, 4, 5, 6, 7, 8, 9, 10],
-            Kind::Write => &[1, 2, 3, 11, 12, 13],
-            Kind::Complete => &[2, 3, 14],
-            Kind::Ask => &[2, 7],
-            Kind::Count => &[2, 3],
+            Kind::Open => vec![FirstNumber],
+            Kind::Create => vec![
+                BufferSize,
+                NotSound,
+                BlockAbove63,
+                DataLength,
+                PastTheEnd,
+                ManyNames,
+                NeverIssued,
+                NoNumberLeft,
+                NoFreeSlot,
+                NoFreeRoom,
+            ],
+            Kind::Write => vec![BufferSize, NotSound, BlockAbove63, OneInFlight, NoneWaits, NoneMayGo],
+            Kind::Complete => vec![NotSound, BlockAbove63, NoneInFlight],
+            Kind::Ask => vec![NotSound, NeverIssued],
+            Kind::Count => vec![NotSound, BlockAbove63],
         }
     }
 
     fn holds(&self, refusal: Refusal, table: &Table, asked: &Asked) -> bool {
         match refusal {
-            1 => asked.sizes_wrong,
-            2 => !self.sound(table),
-            3 => asked.block > LAST_BLOCK,
-            4 => asked.length == 0 || asked.length > LONGEST_DATA,
-            5 => self.past_the_end(asked.offset, asked.length),
-            6 => asked.numbers.len() > MOST_NAMED,
-            7 => asked.numbers.iter().any(|&n| self.never_issued(table, n)),
-            8 => table.next == LAST_NUMBER + 1,
-            9 => self.lowest_free_slot(table).is_none(),
-            10 => !self.would_be_hard(table, asked.block) && self.lowest_free_room(table).is_none(),
-            11 => !table.in_flight(asked.block).is_empty(),
-            12 => table.waiting(asked.block).is_empty(),
-            13 => self.largest_that_may_go(table, asked.block).is_empty(),
-            14 => table.in_flight(asked.block).is_empty(),
-            15 => asked.numbers.iter().any(|&n| n == 0 || n > LAST_NUMBER),
-            _ => false,
+            Refusal::BufferSize => asked.sizes_wrong,
+            Refusal::NotSound => !self.sound(table),
+            Refusal::BlockAbove63 => asked.block > LAST_BLOCK,
+            Refusal::DataLength => asked.length == 0 || asked.length > LONGEST_DATA,
+            Refusal::PastTheEnd => self.past_the_end(asked.offset, asked.length),
+            Refusal::ManyNames => self.too_many_names(asked.numbers.len()),
+            Refusal::NeverIssued => asked.numbers.iter().any(|&n| self.never_issued(table, n)),
+            Refusal::NoNumberLeft => table.next == LAST_NUMBER + 1,
+            Refusal::NoFreeSlot => self.lowest_free_slot(table).is_none(),
+            Refusal::NoFreeRoom => {
+                !self.would_be_hard(table, asked.block) && self.lowest_free_room(table).is_none()
+            }
+            Refusal::OneInFlight => !table.in_flight(asked.block).is_empty(),
+            Refusal::NoneWaits => table.waiting(asked.block).is_empty(),
+            Refusal::NoneMayGo => self.largest_that_may_go(table, asked.block).is_empty(),
+            Refusal::NoneInFlight => table.in_flight(asked.block).is_empty(),
+            Refusal::FirstNumber => asked.numbers.iter().any(|&n| n == 0 || n > LAST_NUMBER),
         }
+    }
+
+    fn too_many_names(&self, names: usize) -> bool {
+        names > MOST_NAMED
     }
 
     fn past_the_end(&self, offset: u32, length: usize) -> bool {
@@ -97,20 +114,20 @@ pub trait Model {
 
     /// The first refusal that holds, if any.
     fn judge(&self, kind: Kind, table: &Table, asked: &Asked) -> Result<(), Refusal> {
-        match self.tests(kind).iter().find(|&&refusal| self.holds(refusal, table, asked)) {
-            Some(&refusal) => Err(refusal),
+        match self.tests(kind).into_iter().find(|&refusal| self.holds(refusal, table, asked)) {
+            Some(refusal) => Err(refusal),
             None => Ok(()),
         }
     }
 
     // ---- Open ----
 
-    fn open(&self, first: u32) -> (Refusal, Table) {
+    /// The table that open gives, granted or refused.
+    fn open(&self, first: u32) -> (Result<(), Refusal>, Table) {
         let asked = Asked { numbers: &[first], ..Asked::default() };
-        match self.judge(Kind::Open, &Table::empty(1), &asked) {
-            Ok(()) => (0, Table::empty(first)),
-            Err(refusal) => (refusal, Table::empty(1)),
-        }
+        let judged = self.judge(Kind::Open, &Table::empty(1), &asked);
+        let opened = if judged.is_ok() { first } else { 1 };
+        (judged, Table::empty(opened))
     }
 
     // ---- Create ----
@@ -131,14 +148,14 @@ pub trait Model {
             numbers: change.named,
         };
         self.judge(Kind::Create, table, &asked)?;
-        let slot = self.lowest_free_slot(table).ok_or(9u32)?;
+        let slot = self.lowest_free_slot(table).ok_or(Refusal::NoFreeSlot)?;
         let befores = self.befores(table, change);
         let start = block_start(change.block) + change.offset as usize;
         let state = if self.would_be_hard(table, change.block) {
             self.turn_waiting_soft_hard(table, change.block);
             State::WaitingHard
         } else {
-            let room = self.lowest_free_room(table).ok_or(10u32)?;
+            let room = self.lowest_free_room(table).ok_or(Refusal::NoFreeRoom)?;
             let old: Vec<u8> = image.iter().skip(start).take(change.data.len()).copied().collect();
             self.keep_old_bytes(undo, room, &old);
             State::WaitingSoft { room }
@@ -300,7 +317,7 @@ pub trait Model {
         patch.state = match patch.state {
             State::WaitingHard => State::InFlightHard,
             State::WaitingSoft { .. } => State::InFlightSoft,
-            other => other,
+            State::Free | State::InFlightHard | State::InFlightSoft => patch.state,
         };
     }
 

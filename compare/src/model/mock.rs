@@ -1,21 +1,22 @@
 //! A model behind the library's byte interface: it takes the table's bytes apart, runs the model
 //! and, if the call was granted, puts the whole table back.
 
-use crate::bytes::{TABLE_BYTES, decode, encode, mask};
-use crate::library::Library;
-use crate::model::Model;
-use crate::table::*;
+use crate::library::calls::Library;
+use crate::model::bytes::{TABLE_BYTES, decode, encode, mask};
+use crate::model::rules::Model;
+use crate::model::table::Refusal::NotSound;
+use crate::model::table::*;
 
 pub struct Mock<M>(pub M);
 
 impl<M: Model> Library for Mock<M> {
     fn open(&self, table: &mut [u8], first: u32) -> u32 {
         if table.len() != TABLE_BYTES {
-            return 2;
+            return NotSound.number();
         }
-        let (refusal, opened) = self.0.open(first);
+        let (judged, opened) = self.0.open(first);
         encode(&opened, table);
-        refusal
+        judged.map_or_else(Refusal::number, |()| 0)
     }
 
     fn create(
@@ -35,7 +36,7 @@ impl<M: Model> Library for Mock<M> {
             return no_table(image.len() == IMAGE_BYTES && undo.len() == UNDO_BYTES);
         };
         match self.0.create(&mut taken, image, undo, &Change { block, offset, data, named }) {
-            Err(refusal) => refusal,
+            Err(refusal) => refusal.number(),
             Ok((new, state)) => {
                 (*number, *hold) = (new, hold_word(state));
                 encode(&taken, table);
@@ -59,7 +60,7 @@ impl<M: Model> Library for Mock<M> {
             return no_table(exact && handed.len() == BLOCK_BYTES);
         };
         match self.0.write(&mut taken, image, undo, handed, block) {
-            Err(refusal) => refusal,
+            Err(refusal) => refusal.number(),
             Ok(sent) => {
                 *set = mask(&sent);
                 encode(&taken, table);
@@ -69,9 +70,9 @@ impl<M: Model> Library for Mock<M> {
     }
 
     fn complete(&self, table: &mut [u8], block: u32) -> u32 {
-        let Some(mut taken) = decode(table) else { return 2 };
+        let Some(mut taken) = decode(table) else { return NotSound.number() };
         match self.0.complete(&mut taken, block) {
-            Err(refusal) => refusal,
+            Err(refusal) => refusal.number(),
             Ok(()) => {
                 encode(&taken, table);
                 0
@@ -81,9 +82,9 @@ impl<M: Model> Library for Mock<M> {
 
     fn ask(&self, table: &[u8], asked: u32, state: &mut u32) -> u32 {
         *state = 0;
-        let Some(taken) = decode(table) else { return 2 };
+        let Some(taken) = decode(table) else { return NotSound.number() };
         match self.0.ask(&taken, asked) {
-            Err(refusal) => refusal,
+            Err(refusal) => refusal.number(),
             Ok(standing) => {
                 *state = standing_word(standing);
                 0
@@ -93,9 +94,9 @@ impl<M: Model> Library for Mock<M> {
 
     fn count(&self, table: &[u8], block: u32, count: &mut u32) -> u32 {
         *count = 0;
-        let Some(taken) = decode(table) else { return 2 };
+        let Some(taken) = decode(table) else { return NotSound.number() };
         match self.0.count(&taken, block) {
-            Err(refusal) => refusal,
+            Err(refusal) => refusal.number(),
             Ok(waiting) => {
                 *count = waiting;
                 0
@@ -106,14 +107,14 @@ impl<M: Model> Library for Mock<M> {
 
 /// Bytes that are no table are refused 2, after 1.
 fn no_table(sizes_exact: bool) -> u32 {
-    if sizes_exact { 2 } else { 1 }
+    if sizes_exact { NotSound.number() } else { Refusal::BufferSize.number() }
 }
 
 fn hold_word(state: State) -> u32 {
     match state {
         State::WaitingHard => 1,
         State::WaitingSoft { room } => 2 + room,
-        _ => 0,
+        State::Free | State::InFlightHard | State::InFlightSoft => 0,
     }
 }
 

@@ -16,8 +16,32 @@ pub const LAST_NUMBER: u32 = 1_000_000_000;
 pub const FEW: usize = 6;
 
 pub type Slots = BTreeSet<usize>;
-/// A refusal number of document 01.
-pub type Refusal = u32;
+
+/// The refusals of document 01, by their numbers.
+#[derive(Clone, Copy, PartialEq, Eq, PartialOrd, Ord, Debug)]
+pub enum Refusal {
+    BufferSize = 1,
+    NotSound = 2,
+    BlockAbove63 = 3,
+    DataLength = 4,
+    PastTheEnd = 5,
+    ManyNames = 6,
+    NeverIssued = 7,
+    NoNumberLeft = 8,
+    NoFreeSlot = 9,
+    NoFreeRoom = 10,
+    OneInFlight = 11,
+    NoneWaits = 12,
+    NoneMayGo = 13,
+    NoneInFlight = 14,
+    FirstNumber = 15,
+}
+
+impl Refusal {
+    pub fn number(self) -> u32 {
+        self as u32
+    }
+}
 
 #[derive(Clone, Copy, PartialEq, Eq, Debug)]
 pub enum State {
@@ -70,6 +94,8 @@ pub enum Kind {
     Ask,
     Count,
 }
+
+pub const KINDS: [Kind; 6] = [Kind::Open, Kind::Create, Kind::Write, Kind::Complete, Kind::Ask, Kind::Count];
 
 /// All that the refusal tests look at besides the table. A call leaves out what it has not.
 #[derive(Default)]

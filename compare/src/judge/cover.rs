@@ -1,33 +1,67 @@
 //! Counts how often each refusal and each branch was reached. One that was not fails the run.
 
-use crate::table::{CLAUSES, MOST_NAMED, ROOMS, SLOTS};
-use crate::tables::BREAKS;
+use crate::model::rules::{Model, Right};
+use crate::model::table::{CLAUSES, KINDS, Kind, MOST_NAMED, ROOMS, Refusal, SLOTS};
+use crate::orders::tables::BREAKS;
 use std::collections::BTreeMap;
 
 #[derive(Default)]
 pub struct Cover(BTreeMap<(&'static str, u32), u64>);
 
+/// The name under which a call's answers are counted.
+pub fn answered(kind: Kind) -> &'static str {
+    match kind {
+        Kind::Open => "open answered",
+        Kind::Create => "create answered",
+        Kind::Write => "write answered",
+        Kind::Complete => "complete answered",
+        Kind::Ask => "ask answered",
+        Kind::Count => "count answered",
+    }
+}
+
+/// The name under which it is counted that a call was refused while a later test held too.
+pub fn refused_early(kind: Kind) -> &'static str {
+    match kind {
+        Kind::Open => "open refused so, a later test held too",
+        Kind::Create => "create refused so, a later test held too",
+        Kind::Write => "write refused so, a later test held too",
+        Kind::Complete => "complete refused so, a later test held too",
+        Kind::Ask => "ask refused so, a later test held too",
+        Kind::Count => "count refused so, a later test held too",
+    }
+}
+
+/// The refusals of each call, in rising number. Open refuses a table of another length besides.
+fn refusals(kind: Kind) -> Vec<u32> {
+    let other_length = if kind == Kind::Open { Some(Refusal::NotSound.number()) } else { None };
+    other_length.into_iter().chain(Right.tests(kind).iter().map(|test| test.number())).collect()
+}
+
 /// Everything that must be reached: a name, and the numbers it goes with.
 fn wanted() -> Vec<(&'static str, Vec<u32>)> {
-    let mut wanted = vec![
-        ("open answered", vec![0, 2, 15]),
-        ("create answered", (0..=10).collect()),
-        ("write answered", vec![0, 1, 2, 3, 11, 12, 13]),
-        ("complete answered", vec![0, 2, 3, 14]),
-        ("ask answered", vec![0, 2, 7]),
-        ("count answered", vec![0, 2, 3]),
-        ("create refused so, a later test held too", (1..=9).collect()),
-        ("write refused so, a later test held too", vec![1, 2, 3, 11]),
-        ("complete refused so, a later test held too", vec![2, 3]),
-        ("ask refused so, a later test held too", vec![2]),
-        ("count refused so, a later test held too", vec![2]),
+    let mut wanted: Vec<(&'static str, Vec<u32>)> = Vec::new();
+    for kind in KINDS {
+        let refusals = refusals(kind);
+        wanted.push((answered(kind), [&[0], &refusals[..]].concat()));
+        // After the last there is no later test, and no block in flight is one of which none may go.
+        let early = refusals.iter().copied().filter(|refusal| Some(refusal) != refusals.last());
+        let never =
+            [Refusal::NoneWaits.number(), if kind == Kind::Open { Refusal::NotSound.number() } else { 0 }];
+        wanted.push((refused_early(kind), early.filter(|refusal| !never.contains(refusal)).collect()));
+    }
+    wanted.extend([
         ("create: soft in room", (0..ROOMS).collect()),
         ("create: in slot", (0..SLOTS as u32).collect()),
         ("create: so many numbers named", (0..=MOST_NAMED as u32).collect()),
         ("ask: state", vec![1, 2, 3]),
         ("unsound by one clause alone", (0..CLAUSES.len() as u32).collect()),
         ("unsound in this way", (0..BREAKS.len() as u32).collect()),
-    ];
+        ("open: the first history", vec![0, 15]),
+        ("open: another history", vec![0, 15]),
+        ("cut: ask as noted", vec![1, 2, 3]),
+    ]);
+    wanted.retain(|(_, numbers): &(&str, Vec<u32>)| !numbers.is_empty());
     wanted.extend(SINGLE.iter().map(|&name| (name, vec![0])));
     wanted
 }
@@ -60,17 +94,23 @@ const SINGLE: &[&str] = &[
     "create: refused 5, offset + length is 257",
     "create: refused 5, the sum wraps in 32 bits",
     "create: refused 4, length 65",
+    "create: refused 4, the length's low byte is 1",
     "create: refused 6, nine named",
+    "create: refused 6, 264 named",
     "create: refused 7, its own coming number",
-    "create: refused 7, first - 1",
+    "refused 7, first - 1",
+    "ask: committed more than 65,536 numbers ago",
     "write: all went",
     "write: hard and soft went together",
     "write: one went with its before",
     "write: soft left behind",
     "write: two or more left behind",
     "write: two left behind overlap",
+    "write: two left behind overlap, their low 16 binary digits in the other order",
+    "write: sixteen left behind",
     "write: striking takes two rounds or more",
     "write: striking takes three rounds or more",
+    "write: striking takes nine rounds or more",
     "write: every subset tried",
     "write: befores followed",
     "write: befores in a circle went",
@@ -78,6 +118,7 @@ const SINGLE: &[&str] = &[
     "write: refused 13, only soft wait",
     "write: refused 13, held by one in flight",
     "write: refused 13, hard one struck after the first round",
+    "write: refused 13, hard one struck after the eighth round",
     "complete: a before elsewhere removed",
     "complete: two or more commit",
     "complete: others of the block wait on",
@@ -97,7 +138,8 @@ const SINGLE: &[&str] = &[
     "a room field that is not read",
     "cut: no write out landed",
     "cut: all writes out landed",
-    "cut: some writes out landed, not all",
+    "cut: one write out of several landed",
+    "cut: a history after a cut",
     "cut: a landed change names a landed one",
     "cut: a lower number landed after a higher one of its block",
     "cut: all committed, store equals working image",
@@ -140,8 +182,8 @@ impl Cover {
         for (i, clause) in CLAUSES.iter().enumerate() {
             print!("{} {i} {clause:?}", if i == 0 { "  clauses:" } else { "," });
         }
-        for (i, (way, _)) in BREAKS.iter().enumerate() {
-            print!("{} {i} {way}", if i == 0 { "\n  ways:" } else { "," });
+        for (i, way) in BREAKS.iter().enumerate() {
+            print!("{} {i} {}", if i == 0 { "\n  ways:" } else { "," }, way.name);
         }
         println!();
     }

@@ -1,8 +1,8 @@
 //! The library behind a pipe: serve.c makes the calls through board.h and keeps the buffers; its head says what goes over the pipe.
 //! Works on any processor that can run the program, under an emulator or not.
 
-use crate::library::Library;
-use crate::table::Kind;
+use crate::library::calls::Library;
+use crate::model::table::Kind;
 use std::cell::{Cell, RefCell};
 use std::io::{BufReader, BufWriter, Read, Result, Write};
 use std::process::{ChildStdin, ChildStdout, Command, Stdio};

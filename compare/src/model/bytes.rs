@@ -1,6 +1,6 @@
 //! The table as bytes: first, next, then 64 slots of 32 bytes, every number little-endian.
 
-use crate::table::{SLOTS, Slot, Slots, State, Table};
+use crate::model::table::{SLOTS, Slot, Slots, State, Table};
 
 pub const TABLE_BYTES: usize = 8 + SLOTS * SLOT_BYTES;
 pub const SLOT_BYTES: usize = 32;

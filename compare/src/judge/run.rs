@@ -1,13 +1,12 @@
 //! Runs call orders on the library and on the model side by side and compares everything.
 
-use crate::bytes::{SLOT_BYTES, TABLE_BYTES, decode};
-use crate::cover::Cover;
-use crate::cut::History;
-use crate::library::Library;
-use crate::random::Random;
-use crate::steps::{Answer, Call, Lent, Step, play};
-use crate::table::{BLOCK_BYTES, ROOM_BYTES, Table};
-use crate::watch;
+use crate::judge::cover::Cover;
+use crate::judge::cut::History;
+use crate::judge::watch;
+use crate::library::calls::Library;
+use crate::model::bytes::{SLOT_BYTES, TABLE_BYTES, decode};
+use crate::model::table::{BLOCK_BYTES, ROOM_BYTES, Refusal, Table};
+use crate::orders::steps::{Answer, Call, Lent, Step, play};
 
 /// An order of calls and what it starts from.
 #[derive(Clone)]
@@ -51,20 +50,19 @@ pub struct Run<'a> {
     pub table: Option<Table>,
     history: Option<History>,
     cuts: bool,
-    random: Random,
     made: usize,
 }
 
 impl<'a> Run<'a> {
     pub fn start(pair: Pair<'a>, order: &Order) -> Run<'a> {
         let lent = Lent::filled(&order.table, order.fill);
-        let random = Random::new(order.fill);
         let (beside, table) = (lent.clone(), decode(&order.table));
-        Run { pair, lent, beside, table, history: None, cuts: order.cuts, random, made: 0 }
+        Run { pair, lent, beside, table, history: None, cuts: order.cuts, made: 0 }
     }
 
     /// Makes one call on both sides and compares all there is.
     pub fn step(&mut self, step: &Step, cover: &mut Cover) -> Result<Answer, Failure> {
+        self.power_up(step, cover);
         let before = if step.odd.is_empty() { None } else { Some(self.lent.clone()) };
         self.lent.resize(&step.odd);
         let bytes_before = self.lent.table.clone();
@@ -99,22 +97,41 @@ impl<'a> Run<'a> {
         }
     }
 
+    /// After a cut the working image is filled from the store.
+    fn power_up(&mut self, step: &Step, cover: &mut Cover) {
+        if let (Some(landed), Some(history)) = (&step.after_cut, &self.history) {
+            cover.add("cut: a history after a cut", 0);
+            self.lent.image = history.store_after(landed);
+            self.beside.image.clone_from(&self.lent.image);
+        }
+    }
+
+    /// The blocks with a write out, where a history is kept.
+    pub fn blocks_out(&self) -> Vec<u32> {
+        self.history.as_ref().map_or(Vec::new(), History::blocks_out)
+    }
+
+    /// Every opening that gives a table begins a history, refused or not: the image is what its store holds.
     fn cut(&mut self, call: &Call, answer: &Answer, cover: &mut Cover) -> Result<(), String> {
         if !self.cuts {
             return Ok(());
         }
-        if answer.refusal == 0 {
-            if let Call::Open { .. } = call {
-                self.history = Some(History::opened(&self.lent.image));
-            } else if let Some(history) = &mut self.history {
-                history.record(call, answer, &self.lent.handed, cover)?;
+        if let Call::Open { .. } = call {
+            if answer.refusal != Refusal::NotSound.number() {
+                let again = self.history.replace(History::opened(&self.lent.image)).is_some();
+                cover.add(
+                    if again { "open: another history" } else { "open: the first history" },
+                    answer.refusal,
+                );
             }
+        } else if let (0, Some(history)) = (answer.refusal, &mut self.history) {
+            history.record(call, answer, &self.lent.handed, cover)?;
         }
         match &self.history {
             None => Ok(()),
             Some(history) => {
                 history.settled(&self.lent, cover)?;
-                history.cut(&mut self.random, cover)
+                history.cut(cover)
             }
         }
     }

@@ -1,10 +1,10 @@
 //! Makes call orders from a seed. The next call is chosen with an eye on the table as it stands,
 //! so that orders reach full slots, full rooms, overlaps, chains over blocks and every refusal.
 
-use crate::faults;
-use crate::random::Random;
-use crate::steps::{Step, ask, complete, count, create, write};
-use crate::table::{BLOCK_BYTES, LAST_BLOCK, LAST_NUMBER, LONGEST_DATA, MOST_NAMED, ROOMS, Table};
+use crate::model::table::{BLOCK_BYTES, LAST_BLOCK, LAST_NUMBER, LONGEST_DATA, MOST_NAMED, ROOMS, Table};
+use crate::orders::faults;
+use crate::orders::random::Random;
+use crate::orders::steps::{Step, ask, complete, count, create, write};
 
 /// What an order likes to do.
 #[derive(Clone, Debug)]

@@ -2,10 +2,10 @@
 
 #![allow(unused_imports)]
 
-use crate::bytes::{TABLE_BYTES, encoded};
-use crate::run::Order;
-use crate::steps::{Buffer, ask, complete, count, create, open, write};
-use crate::table::{Slot, State, Table};
+use crate::judge::run::Order;
+use crate::model::bytes::{TABLE_BYTES, encoded};
+use crate::model::table::{Slot, State, Table};
+use crate::orders::steps::{Buffer, ask, complete, count, create, open, write};
 
 pub fn orders() -> Vec<Order> {
     vec![

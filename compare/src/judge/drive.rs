@@ -1,15 +1,15 @@
 //! Makes and runs orders, one for each seed, and keeps the sums.
 
-use crate::cover::Cover;
-use crate::faults;
-use crate::model::{Model, Right};
-use crate::orders::{Maker, Taste, first_number};
-use crate::random::Random;
-use crate::run::{Failure, Order, Pair, Run};
-use crate::shrink::line;
-use crate::steps::{Buffer, Step, open};
-use crate::table::Table;
-use crate::tables::{self, BREAKS};
+use crate::judge::cover::Cover;
+use crate::judge::run::{Failure, Order, Pair, Run};
+use crate::judge::shrink::{line, said, table_lines};
+use crate::model::rules::{Model, Right};
+use crate::model::table::{Refusal, Table};
+use crate::orders::faults;
+use crate::orders::maker::{Maker, Taste, first_number};
+use crate::orders::random::Random;
+use crate::orders::steps::{Buffer, Step, open};
+use crate::orders::tables::{self, BREAKS};
 
 #[derive(Default)]
 pub struct Sums {
@@ -36,7 +36,7 @@ pub struct Driver<'a> {
     pub sums: Sums,
     /// Says each seed before its order.
     pub show_seeds: bool,
-    /// Says each call before it is made.
+    /// Says the starting table, each call before it is made, and its answer.
     pub show_calls: bool,
 }
 
@@ -85,15 +85,17 @@ impl<'a> Driver<'a> {
     fn with_history(&mut self, mut random: Random, fill: u64) -> Result<(), Stop> {
         let mut order = Order { fill, ..Order::of(&[]) };
         let calls = random.between(10, 260) as usize;
-        let first = open(first_number(&mut random));
+        let first = opening(&mut random);
         let taste = Taste::of_seed(&mut random);
         let drain = random.percent(50);
+        let opens_again = random.percent(30);
         let mut maker = Maker { random, taste };
         let mut run = Run::start(self.pair, &order);
         self.call(&mut run, &mut order, first)?;
         for _ in 0..calls {
             let Some(table) = &run.table else { break };
-            let step = maker.step(table);
+            let again = opens_again && maker.random.percent(2);
+            let step = if again { open_again(&mut maker.random, &run) } else { maker.step(table) };
             self.call(&mut run, &mut order, step)?;
         }
         if drain {
@@ -128,10 +130,9 @@ impl<'a> Driver<'a> {
     /// A table with one clause of soundness broken: every call is refused.
     fn broken_table(&mut self, mut random: Random, fill: u64) -> Result<(), Stop> {
         let way = random.below(BREAKS.len());
-        let table = tables::broken(&mut random, way);
+        let table = tables::broken(&mut random, &BREAKS[way]);
         let bytes = tables::bytes_with_unread_rooms(&mut random, &table);
-        let refused_2 = self.on_table(random, fill, bytes, table, 4)?;
-        if refused_2 {
+        if self.on_table(random, fill, bytes, table, 4)? {
             self.cover.add("unsound in this way", way as u32);
         }
         Ok(())
@@ -159,22 +160,46 @@ impl<'a> Driver<'a> {
         for call in 0..calls {
             let step = single_step(&mut maker, run.table.as_ref().unwrap_or(&shown));
             let refusal = self.call(&mut run, &mut order, step)?;
-            refused_2 = refused_2 || (call == 0 && refusal == 2);
+            refused_2 = refused_2 || (call == 0 && refusal == Refusal::NotSound.number());
         }
         Ok(refused_2)
     }
 
     fn call(&mut self, run: &mut Run, order: &mut Order, step: Step) -> Result<u32, Stop> {
         self.sums.calls += 1;
+        if self.show_calls && order.steps.is_empty() {
+            println!("{}", table_lines(&order.table));
+        }
         if self.show_calls {
             println!("  {}", line(&step));
         }
         order.steps.push(step);
         match run.step(&order.steps[order.steps.len() - 1], &mut self.cover) {
-            Ok(answer) => Ok(answer.refusal),
+            Ok(answer) => {
+                if self.show_calls {
+                    println!("      {}", said(&answer));
+                }
+                Ok(answer.refusal)
+            }
             Err(failure) => Err(Box::new((order.clone(), failure))),
         }
     }
+}
+
+/// An opening, at times one that is refused.
+fn opening(random: &mut Random) -> Step {
+    let step = open(first_number(random));
+    if random.percent(5) { faults::spoil(random, &Table::empty(1), step) } else { step }
+}
+
+/// Another opening in the midst of an order: on the image as it stands, or after a cut that some of the writes out survived.
+fn open_again(random: &mut Random, run: &Run) -> Step {
+    let step = opening(random);
+    if random.percent(30) {
+        return step;
+    }
+    let landed: Vec<u32> = run.blocks_out().into_iter().filter(|_| random.percent(50)).collect();
+    step.after_cut(&landed)
 }
 
 /// Likes the blocks of the table.

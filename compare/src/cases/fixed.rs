@@ -1,12 +1,12 @@
 //! The rows and edges of document 01 with their exact numbers. Each row is run on the library,
 //! checked against what the document says, and compared with the model like any other call.
 
-use crate::bytes::decode;
-use crate::cover::Cover;
-use crate::run::{Failure, Order, Pair, Run};
-use crate::shrink::{line, said};
-use crate::steps::*;
-use crate::table::State;
+use crate::judge::cover::Cover;
+use crate::judge::run::{Failure, Order, Pair, Run};
+use crate::judge::shrink::{line, said};
+use crate::model::bytes::{TABLE_BYTES, decode, encoded};
+use crate::model::table::{LAST_NUMBER, Slot, Slots, State, Table};
+use crate::orders::steps::*;
 
 /// What a row must answer, hand out and leave in a slot.
 #[derive(Clone, Default)]
@@ -17,6 +17,13 @@ pub struct Want {
 }
 
 type Row = (&'static str, Step, Want);
+
+/// Rows on a table, and what the case is called.
+struct Case {
+    name: &'static str,
+    table: Option<Table>,
+    rows: Vec<Row>,
+}
 
 fn granted() -> Want {
     Want::default()
@@ -110,6 +117,10 @@ fn edges_of_create() -> Vec<Row> {
         ("length 65", create(0, 0, &[7; 65], &[]), refused(4)),
         ("8 numbers", create(0, 0, &[7], &[1, 2, 1, 2, 1, 2, 1, 2]), hard(3)),
         ("9 numbers", create(0, 0, &[7], &[1; 9]), refused(6)),
+        ("264 numbers", create(0, 0, &[7], &[1; 264]), refused(6)),
+        ("65,544 numbers", create(0, 0, &[7], &[1; 65_544]), refused(6)),
+        ("length 257", create(0, 0, &[7; 257], &[]), refused(4)),
+        ("length 65,537", create(0, 0, &[7; 65_537], &[]), refused(4)),
         ("9 numbers, one never issued", create(0, 0, &[7], &[9; 9]), refused(6)),
         ("its own coming number", create(0, 0, &[7], &[4]), refused(7)),
         ("number 0", create(0, 0, &[7], &[0]), refused(7)),
@@ -194,28 +205,116 @@ fn shortcuts() -> Vec<Row> {
     ]
 }
 
-pub fn all() -> Vec<(&'static str, Vec<Row>)> {
+/// Sixteen soft patches stay behind, each over the one before it, and the last is the first to be taken back.
+fn sixteen_taken_back() -> Vec<Row> {
+    let mut rows = vec![
+        ("open", open(1), granted()),
+        ("one on block 1", create(1, 0, &[1; 17], &[]), hard(1)),
+        ("one on block 2 names it", create(2, 0, &[2], &[1]), hard(2)),
+    ];
+    for room in 0..16 {
+        let over = create(1, room, &[10 + room as u8; 2], &[2]);
+        rows.push(("one of sixteen that follow it", over, soft(3 + room, room)));
+    }
+    rows.push(("1 goes alone", write(1), sends(&[0], &[(17, 1)])));
+    rows
+}
+
+/// Each of sixteen soft patches follows the one before it, the first one on another block: a round strikes one.
+fn many_rounds() -> Vec<Row> {
+    let mut rows = vec![
+        ("open", open(1), granted()),
+        ("one on block 1", create(1, 0, &[1], &[]), hard(1)),
+        ("one on block 2 names it", create(2, 0, &[2], &[1]), hard(2)),
+    ];
+    for room in 0..16 {
+        let chained = create(1, 10 * room, &[7; 5], &[2 + room]);
+        rows.push(("one that follows the last", chained, soft(3 + room, room)));
+    }
+    rows.push(("1 goes alone", write(1), sends(&[0], &[(1, 1)])));
+    rows
+}
+
+/// Two soft patches that overlap, the later number with the lower sixteen binary digits: it is the first to be taken back.
+fn past_sixteen_digits() -> Vec<Row> {
     vec![
-        ("P1 to P10", two_pages()),
-        ("the branch after P6", branch_after_p6()),
-        ("edges of create", edges_of_create()),
-        ("edges of open", edges_of_open()),
-        ("full slots", full_slots()),
-        ("full rooms", full_rooms()),
-        ("the shortcuts", shortcuts()),
+        ("open", open(65_533), granted()),
+        ("one on block 1", create(1, 0, &[1], &[]), hard(65_533)),
+        ("one on block 2 names it", create(2, 0, &[2], &[65_533]), hard(65_534)),
+        ("65,535 follows that", create(1, 2, &[3; 4], &[65_534]), soft(65_535, 0)),
+        ("65,536 lies over it", create(1, 4, &[4; 4], &[]), soft(65_536, 1)),
+        ("65,533 goes alone", write(1), sends(&[0], &[(1, 1)])),
     ]
 }
 
-/// Runs all fixed cases; gives how many rows were run, or what went wrong first.
-pub fn run(pair: Pair) -> Result<usize, String> {
+/// Fifteen soft patches in a chain and a hard one at its end, which only the sixteenth round strikes, beside a soft one that follows
+/// nothing: no order of calls leaves it.
+fn late_hard_one() -> Table {
+    let mut table = Table { next: 20, ..Table::empty(1) };
+    let slot = |i: usize| {
+        let state = if i == 15 { State::WaitingHard } else { State::WaitingSoft { room: i as u32 } };
+        let (number, befores) = (1 + i as u32, Slots::from([if i == 0 { 16 } else { i - 1 }]));
+        Slot { state, number, block: 1, offset: number, length: 1, befores }
+    };
+    (0..16).for_each(|i| table.slots[i] = slot(i));
+    table.slots[16] = Slot { block: 2, befores: Slots::new(), number: 17, ..slot(15) };
+    table.slots[17] =
+        Slot { befores: Slots::new(), number: 18, state: State::WaitingSoft { room: 15 }, ..slot(15) };
+    table
+}
+
+/// Numbers that are issued and far apart, up to all there are.
+fn far_numbers() -> Vec<Row> {
+    vec![
+        ("the first number has committed", ask(1), state(3)),
+        ("65,537 numbers ago", ask(999_934_464), state(3)),
+        ("the last number issued", ask(1_000_000_000), state(1)),
+        ("the one after it", ask(1_000_000_001), refused(7)),
+        ("a committed one named", create(1, 0, &[1], &[2]), refused(8)),
+    ]
+}
+
+fn all_issued() -> Table {
+    let mut table = Table { next: LAST_NUMBER + 1, ..Table::empty(1) };
+    let befores = Slots::new();
+    table.slots[3] =
+        Slot { state: State::WaitingHard, number: LAST_NUMBER, block: 1, offset: 0, length: 1, befores };
+    table
+}
+
+fn all() -> Vec<Case> {
+    let case = |name, rows| Case { name, table: None, rows };
+    let on = |name, table, rows| Case { name, table: Some(table), rows };
+    let held =
+        vec![("a hard one struck late", write(1), refused(13)), ("none elsewhere", write(3), refused(12))];
+    vec![
+        case("P1 to P10", two_pages()),
+        case("the branch after P6", branch_after_p6()),
+        case("edges of create", edges_of_create()),
+        case("edges of open", edges_of_open()),
+        case("full slots", full_slots()),
+        case("full rooms", full_rooms()),
+        case("the shortcuts", shortcuts()),
+        case("sixteen taken back", sixteen_taken_back()),
+        case("many rounds", many_rounds()),
+        case("numbers past sixteen digits", past_sixteen_digits()),
+        on("a hard one at the end of a chain", late_hard_one(), held),
+        on("all numbers issued", all_issued(), far_numbers()),
+    ]
+}
+
+/// Runs all fixed cases; gives how many rows were run, or what went wrong first, and at which.
+pub fn run(pair: Pair, cover: &mut Cover) -> Result<usize, (usize, String)> {
     let mut rows_run = 0;
-    for (case, rows) in all() {
-        let mut run = Run::start(pair, &Order::of(&[]));
+    for Case { name, table, rows } in all() {
+        let cuts = table.is_none();
+        let table = table.map_or(vec![0; TABLE_BYTES], |table| encoded(&table));
+        let mut run = Run::start(pair, &Order { table, cuts, ..Order::of(&[]) });
         for (row, step, want) in rows {
-            let found = |what: String| format!("{case}, row \"{row}\", {}: {what}", line(&step));
-            let answer = run.step(&step, &mut Cover::default()).map_err(|failure| found(both(&failure)))?;
-            check(&run, &answer, &want).map_err(found)?;
             rows_run += 1;
+            let found = |what: String| (rows_run, format!("{name}, row \"{row}\", {}: {what}", line(&step)));
+            let answer = run.step(&step, cover).map_err(|failure| found(both(&failure)))?;
+            check(&run, &answer, &want).map_err(found)?;
         }
     }
     Ok(rows_run)

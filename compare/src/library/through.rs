@@ -1,10 +1,10 @@
 //! The ways to what is under test: the library linked in or behind a pipe, the plain program behind a pipe, or a model that
 //! stands in for the library.
 
-use crate::library::Library;
-use crate::mock::Mock;
-use crate::model::Right;
-use crate::pipe::Pipe;
+use crate::library::calls::Library;
+use crate::library::pipe::Pipe;
+use crate::model::mock::Mock;
+use crate::model::rules::Right;
 use std::path::Path;
 use std::process::Command;
 
@@ -31,7 +31,7 @@ pub fn library(way: Through) -> Result<(&'static str, Box<dyn Library>), String>
 
 #[cfg(linked)]
 fn linked() -> Result<(&'static str, Box<dyn Library>), String> {
-    Ok(("libboard.a linked in", Box::new(crate::linked::Linked)))
+    Ok(("libboard.a linked in", Box::new(crate::library::linked::Linked::default())))
 }
 
 #[cfg(not(linked))]

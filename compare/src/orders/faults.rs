@@ -1,8 +1,8 @@
 //! Spoils a proper call in one to three ways, so that refusals are reached and their order counts.
 
-use crate::random::Random;
-use crate::steps::{Buffer, Call, Step, exact_size};
-use crate::table::Table;
+use crate::model::table::Table;
+use crate::orders::random::Random;
+use crate::orders::steps::{Buffer, Call, Step, exact_size};
 
 pub fn spoil(random: &mut Random, table: &Table, mut step: Step) -> Step {
     let faults = 1 + random.below(3);
@@ -57,7 +57,7 @@ fn wrong_block(random: &mut Random) -> u32 {
 }
 
 fn random_length(random: &mut Random) -> Vec<u8> {
-    let length = random.pick(&[0, 0, 64, 65, 65, 66, 128, 256, 257, 1000]);
+    let length = random.pick(&[0, 0, 64, 65, 65, 66, 128, 256, 257, 320, 1000, 65_537]);
     random.bytes(length)
 }
 
@@ -77,7 +77,7 @@ fn wrong_number(random: &mut Random, table: &Table) -> u32 {
 
 /// Nine numbers or more, issued or not.
 fn many_names(random: &mut Random, table: &Table) -> Vec<u32> {
-    let count = random.pick(&[9, 9, 10, 16, 65]);
+    let count = random.pick(&[9, 9, 10, 16, 65, 255, 256, 264, 264, 300]);
     let last = table.next.saturating_sub(1).max(table.first);
     (0..count).map(|_| random.between(table.first, last)).collect()
 }

@@ -1,10 +1,10 @@
 //! Makes a failing order short, and prints it as lines that can be pasted into pasted.rs.
 
-use crate::bytes::{SLOT_BYTES, TABLE_BYTES, decode, encoded};
-use crate::cover::Cover;
-use crate::run::{Failure, Order, Pair, Run, replay};
-use crate::steps::{Answer, Call, Step};
-use crate::table::{SLOTS, Slot, Table};
+use crate::judge::cover::Cover;
+use crate::judge::run::{Failure, Order, Pair, Run, replay};
+use crate::model::bytes::{SLOT_BYTES, TABLE_BYTES, decode, encoded};
+use crate::model::table::{SLOTS, Slot, Table};
+use crate::orders::steps::{Answer, Call, Step};
 
 /// Leaves out calls, names, slots of the table and the filling while the order still fails.
 pub fn shrink(pair: Pair, order: Order, failure: Failure) -> (Order, Failure) {
@@ -41,23 +41,21 @@ fn fewer_calls(order: &Order) -> impl Iterator<Item = Order> {
     })
 }
 
-/// The order without one granted create: its number is named no more, higher ones shift down.
+/// The order without one create that was given a number of its own: it is named no more, higher ones shift down.
 fn without_create(pair: Pair, order: &Order) -> impl Iterator<Item = Order> {
     let given = numbers_given(pair, order);
     (0..given.len()).filter_map(move |at| {
-        let gone = given[at].filter(|_| matches!(order.steps[at].call, Call::Create { .. }))?;
+        let gone =
+            given[at].filter(|number| given.iter().filter(|other| **other == Some(*number)).count() == 1)?;
         let shift = |number: &mut u32| *number -= u32::from(*number > gone);
         let mut shorter = order.clone();
         shorter.steps.remove(at);
         for step in &mut shorter.steps[at..] {
-            match &mut step.call {
-                Call::Create { named, .. } => {
-                    named.retain(|&number| number != gone);
-                    named.iter_mut().for_each(shift);
-                }
-                Call::Ask { number } => shift(number),
-                _ => {}
+            if let Some(named) = step.call.names() {
+                named.retain(|&number| number != gone);
+                named.iter_mut().for_each(shift);
             }
+            step.call.asked().into_iter().for_each(shift);
         }
         Some(shorter)
     })
@@ -75,22 +73,26 @@ fn numbers_given(pair: Pair, order: &Order) -> Vec<Option<u32>> {
 fn plainer_data(order: &Order) -> impl Iterator<Item = Order> {
     (0..order.steps.len()).filter_map(move |at| {
         let mut plainer = order.clone();
-        let Call::Create { data, .. } = &mut plainer.steps[at].call else { return None };
-        data.fill(at as u8);
+        plainer.steps[at].call.data()?.fill(at as u8);
         (plainer.steps[at] != order.steps[at]).then_some(plainer)
     })
 }
 
+/// The order without one of the names, or without what came before a call.
 fn fewer_names(order: &Order) -> impl Iterator<Item = Order> {
     (0..order.steps.len()).flat_map(move |at| {
-        let names = if let Call::Create { named, .. } = &order.steps[at].call { named.len() } else { 0 };
-        (0..names).map(move |name| {
+        let names = order.steps[at].clone().call.names().map_or(0, |named| named.len());
+        let unnamed = (0..names).map(move |name| {
             let mut fewer = order.clone();
-            if let Call::Create { named, .. } = &mut fewer.steps[at].call {
-                named.remove(name);
-            }
+            fewer.steps[at].call.names().map(|named| named.remove(name));
             fewer
-        })
+        });
+        let uncut = order.steps[at].after_cut.is_some().then(|| {
+            let mut fewer = order.clone();
+            fewer.steps[at].after_cut = None;
+            fewer
+        });
+        unnamed.chain(uncut)
     })
 }
 
@@ -116,43 +118,45 @@ fn without_slot(bytes: &[u8], slot: usize) -> Vec<u8> {
 }
 
 pub fn print(order: &Order, failure: &Failure) {
-    println!("    Order {{");
-    print_table(&order.table);
-    println!("        fill: {}, cuts: {},", order.fill, order.cuts);
-    println!("        steps: vec![");
-    for step in &order.steps {
-        println!("            {},", line(step));
-    }
-    println!("        ],\n    }}");
-    println!("at its call {} ({}):", failure.at + 1, failure.what);
-    println!("  library: {}", said(&failure.library));
-    if let Some(model) = &failure.model {
-        println!("  model:   {}", said(model));
-    }
+    println!("{}", printed(order, failure));
 }
 
-fn print_table(bytes: &[u8]) {
+/// The order as lines to paste, and what failed.
+pub fn printed(order: &Order, failure: &Failure) -> String {
+    let mut lines = vec![String::from("    Order {"), table_lines(&order.table)];
+    lines.push(format!("        fill: {}, cuts: {},", order.fill, order.cuts));
+    lines.push(String::from("        steps: vec!["));
+    lines.extend(order.steps.iter().map(|step| format!("            {},", line(step))));
+    lines.push(String::from("        ],\n    }"));
+    lines.push(format!("at its call {} ({}):", failure.at + 1, failure.what));
+    lines.push(format!("  library: {}", said(&failure.library)));
+    lines.extend(failure.model.iter().map(|model| format!("  model:   {}", said(model))));
+    lines.join("\n")
+}
+
+/// The table that an order starts from, as lines to paste.
+pub fn table_lines(bytes: &[u8]) -> String {
     if *bytes == vec![0; TABLE_BYTES] {
-        println!("        table: vec![0; TABLE_BYTES],");
-        return;
+        return String::from("        table: vec![0; TABLE_BYTES],");
     }
     match decode(bytes) {
-        Some(table) if encoded(&table) == bytes => print_slots(&table),
+        Some(table) if encoded(&table) == bytes => slot_lines(&table),
         _ => {
             let places = (0..bytes.len()).filter(|&i| bytes[i] != 0).map(|i| (i, bytes[i]));
-            println!("        table: bytes(&{:?}),", places.collect::<Vec<_>>());
+            format!("        table: bytes(&{:?}),", places.collect::<Vec<_>>())
         }
     }
 }
 
-fn print_slots(table: &Table) {
-    println!("        table: table({}, {}, &[", table.first, table.next);
+fn slot_lines(table: &Table) -> String {
+    let mut lines = vec![format!("        table: table({}, {}, &[", table.first, table.next)];
     for (i, slot) in table.slots.iter().enumerate().filter(|(_, slot)| **slot != Slot::free()) {
         let befores: Vec<usize> = slot.befores.iter().copied().collect();
         let numbers = format!("{}, {}, {}, {}", slot.number, slot.block, slot.offset, slot.length);
-        println!("            ({i}, State::{:?}, {numbers}, &{befores:?}),", slot.state);
+        lines.push(format!("            ({i}, State::{:?}, {numbers}, &{befores:?}),", slot.state));
     }
-    println!("        ]),");
+    lines.push(String::from("        ]),"));
+    lines.join("\n")
 }
 
 /// The call as a line to paste.
@@ -160,7 +164,7 @@ pub fn line(step: &Step) -> String {
     let mut line = match &step.call {
         Call::Open { first } => format!("open({first})"),
         Call::Create { block, offset, data, named } => {
-            format!("create({block}, {offset}, &{}, &{named:?})", bytes(data))
+            format!("create({block}, {offset}, &{}, &{})", list(data), list(named))
         }
         Call::Write { block } => format!("write({block})"),
         Call::Complete { block } => format!("complete({block})"),
@@ -170,13 +174,18 @@ pub fn line(step: &Step) -> String {
     for (buffer, size) in &step.odd {
         line += &format!(".lending(Buffer::{buffer:?}, {size})");
     }
+    if let Some(landed) = &step.after_cut {
+        line += &format!(".after_cut(&{landed:?})");
+    }
     line
 }
 
-fn bytes(data: &[u8]) -> String {
-    match data {
-        [first, .., _] if data.iter().all(|byte| byte == first) => format!("[{first}; {}]", data.len()),
-        _ => format!("{data:?}"),
+fn list<T: PartialEq + std::fmt::Debug>(values: &[T]) -> String {
+    match values {
+        [first, .., _] if values.iter().all(|value| value == first) => {
+            format!("[{first:?}; {}]", values.len())
+        }
+        _ => format!("{values:?}"),
     }
 }
 

@@ -1,10 +1,10 @@
 //! Tells the coverage what a call reached, from the table before it and its answer.
 
-use crate::bytes::{SLOT_BYTES, TABLE_BYTES, set_of};
-use crate::cover::Cover;
-use crate::model::{Model, Right};
-use crate::steps::{Answer, Buffer, Call, Step, exact_size};
-use crate::table::*;
+use crate::judge::cover::{Cover, answered, refused_early};
+use crate::model::bytes::{SLOT_BYTES, TABLE_BYTES, set_of};
+use crate::model::rules::{Model, Right};
+use crate::model::table::*;
+use crate::orders::steps::{Answer, Buffer, Call, Step, exact_size};
 use std::collections::BTreeSet;
 
 /// `table` is the table before the call, `lent` its bytes as the call got them.
@@ -18,35 +18,34 @@ pub fn see(cover: &mut Cover, table: Option<&Table>, lent: &[u8], step: &Step, a
         cover.add(if odd_length { "table of another length" } else { "a tag above 4" }, 0);
         return;
     };
-    match (&step.call, answer.refusal) {
-        (Call::Open { .. }, _) => {}
-        (Call::Create { block, offset, data, named }, 0) => {
+    if answer.refusal != 0 {
+        see_refused(cover, table, step, answer.refusal);
+        return;
+    }
+    match &step.call {
+        Call::Open { .. } => {}
+        Call::Create { block, offset, data, named } => {
             let change = Change { block: *block, offset: *offset, data, named };
             see_create(cover, table, &change, answer);
             see_befores(cover, table, &change);
         }
-        (Call::Write { block }, 0) => see_write(cover, table, *block, &set_of(answer.set)),
-        (Call::Complete { block }, 0) => see_complete(cover, table, *block, lent),
-        (Call::Ask { .. }, 0) => cover.add("ask: state", answer.state),
-        (Call::Count { block }, 0) => see_count(cover, table, *block, answer.count),
-        (_, refusal) => see_refused(cover, table, step, refusal),
+        Call::Write { block } => see_write(cover, table, *block, &set_of(answer.set)),
+        Call::Complete { block } => see_complete(cover, table, *block, lent),
+        Call::Ask { number } => {
+            cover.add("ask: state", answer.state);
+            when(
+                cover,
+                table.next - number > 65_536 && answer.state == 3,
+                "ask: committed more than 65,536 numbers ago",
+            );
+        }
+        Call::Count { block } => see_count(cover, table, *block, answer.count),
     }
 }
 
 fn when(cover: &mut Cover, reached: bool, name: &'static str) {
     if reached {
         cover.add(name, 0);
-    }
-}
-
-fn answered(kind: Kind) -> &'static str {
-    match kind {
-        Kind::Open => "open answered",
-        Kind::Create => "create answered",
-        Kind::Write => "write answered",
-        Kind::Complete => "complete answered",
-        Kind::Ask => "ask answered",
-        Kind::Count => "count answered",
     }
 }
 
@@ -136,6 +135,12 @@ fn see_write(cover: &mut Cover, table: &Table, block: u32, sent: &Slots) {
     let (rounds, _) = rounds_of_striking(table, block);
     when(cover, rounds >= 2, "write: striking takes two rounds or more");
     when(cover, rounds >= 3, "write: striking takes three rounds or more");
+    when(cover, rounds >= 9, "write: striking takes nine rounds or more");
+    when(cover, left.len() == 16, "write: sixteen left behind");
+    let wide =
+        |a: &Slot, b: &Slot| (a.number < b.number) != (a.number % 65_536 < b.number % 65_536) && share(a, b);
+    let digits = (1..left.len()).any(|i| left[..i].iter().any(|p| wide(p, left[i])));
+    when(cover, digits, "write: two left behind overlap, their low 16 binary digits in the other order");
     when(cover, waiting.len() <= FEW, "write: every subset tried");
     when(cover, waiting.len() > FEW, "write: befores followed");
     let circle = |&i: &usize| Right.all_that_stands_before(table, i).contains(&i);
@@ -145,20 +150,19 @@ fn see_write(cover: &mut Cover, table: &Table, block: u32, sent: &Slots) {
     when(cover, in_circle, "write: befores in a circle went");
 }
 
-/// How many rounds strike something, and whether a hard patch is struck only after the first.
-fn rounds_of_striking(table: &Table, block: u32) -> (usize, bool) {
+/// How many rounds strike something, and in which a hard patch is first struck (0: in none).
+fn rounds_of_striking(table: &Table, block: u32) -> (usize, usize) {
     let mut left = table.waiting(block);
-    let (mut rounds, mut hard_struck, mut late) = (0, false, false);
+    let (mut rounds, mut hard_struck) = (0, 0);
     loop {
         let held = |&i: &usize| !table.slots[i].befores.is_subset(&left);
         let struck: Slots = left.iter().copied().filter(held).collect();
         if struck.is_empty() {
-            return (rounds, late);
+            return (rounds, hard_struck);
         }
         rounds += 1;
-        if struck.iter().any(|&i| table.slots[i].state == State::WaitingHard) {
-            late = late || (rounds >= 2 && !hard_struck);
-            hard_struck = true;
+        if hard_struck == 0 && struck.iter().any(|&i| table.slots[i].state == State::WaitingHard) {
+            hard_struck = rounds;
         }
         left.retain(|i| !struck.contains(i));
     }
@@ -189,18 +193,9 @@ fn see_count(cover: &mut Cover, table: &Table, block: u32, count: u32) {
 }
 
 fn see_refused(cover: &mut Cover, table: &Table, step: &Step, refusal: u32) {
-    let later_name = match step.kind() {
-        Kind::Open => return,
-        Kind::Create => "create refused so, a later test held too",
-        Kind::Write => "write refused so, a later test held too",
-        Kind::Complete => "complete refused so, a later test held too",
-        Kind::Ask => "ask refused so, a later test held too",
-        Kind::Count => "count refused so, a later test held too",
-    };
     let number;
     let asked = match &step.call {
         Call::Create { block, offset, data, named } => {
-            see_refused_create(cover, table, step, refusal);
             Asked { block: *block, offset: *offset, length: data.len(), numbers: named, ..Asked::default() }
         }
         Call::Write { block } | Call::Complete { block } | Call::Count { block } => {
@@ -211,33 +206,36 @@ fn see_refused(cover: &mut Cover, table: &Table, step: &Step, refusal: u32) {
             Asked { numbers: &number, ..Asked::default() }
         }
     };
-    let later = |&&test: &&u32| test > refusal && Right.holds(test, table, &asked);
-    if Right.tests(step.kind()).iter().find(later).is_some() {
-        cover.add(later_name, refusal);
+    let tests = Right.tests(step.kind());
+    if tests.iter().any(|&test| test.number() > refusal && Right.holds(test, table, &asked)) {
+        cover.add(refused_early(step.kind()), refusal);
     }
+    let Some(&refusal) = tests.iter().find(|test| test.number() == refusal) else { return };
+    let sum = u64::from(asked.offset) + asked.length as u64;
     match refusal {
-        2 => see_unsound(cover, table),
-        13 => see_held(cover, table, asked.block),
-        _ => {}
-    }
-}
-
-fn see_refused_create(cover: &mut Cover, table: &Table, step: &Step, refusal: u32) {
-    let Call::Create { offset, data, named, .. } = &step.call else { return };
-    let sum = u64::from(*offset) + data.len() as u64;
-    match refusal {
-        4 => when(cover, data.len() == 65, "create: refused 4, length 65"),
-        5 => {
-            when(cover, *offset == u32::MAX, "create: refused 5, offset 4,294,967,295");
+        Refusal::NotSound => see_unsound(cover, table),
+        Refusal::DataLength => {
+            when(cover, asked.length == 65, "create: refused 4, length 65");
+            when(cover, asked.length % 256 == 1, "create: refused 4, the length's low byte is 1");
+        }
+        Refusal::PastTheEnd => {
+            when(cover, asked.offset == u32::MAX, "create: refused 5, offset 4,294,967,295");
             when(cover, sum == 257, "create: refused 5, offset + length is 257");
             when(cover, sum > u64::from(u32::MAX), "create: refused 5, the sum wraps in 32 bits");
         }
-        6 => when(cover, named.len() == 9, "create: refused 6, nine named"),
-        7 => {
-            when(cover, named.contains(&table.next), "create: refused 7, its own coming number");
-            when(cover, named.contains(&(table.first - 1)), "create: refused 7, first - 1");
+        Refusal::ManyNames => {
+            when(cover, asked.numbers.len() == 9, "create: refused 6, nine named");
+            when(cover, asked.numbers.len() == 264, "create: refused 6, 264 named");
         }
-        _ => {}
+        Refusal::NeverIssued => {
+            let coming = asked.numbers.contains(&table.next);
+            when(cover, coming && step.kind() == Kind::Create, "create: refused 7, its own coming number");
+            when(cover, asked.numbers.contains(&(table.first - 1)), "refused 7, first - 1");
+        }
+        Refusal::NoneMayGo => see_held(cover, table, asked.block),
+        Refusal::BufferSize | Refusal::BlockAbove63 | Refusal::NoNumberLeft | Refusal::NoFreeSlot => {}
+        Refusal::NoFreeRoom | Refusal::OneInFlight | Refusal::NoneWaits | Refusal::NoneInFlight => {}
+        Refusal::FirstNumber => {}
     }
 }
 
@@ -255,6 +253,7 @@ fn see_held(cover: &mut Cover, table: &Table, block: u32) {
     let waiting = table.waiting(block);
     let before = |&i: &usize| table.slots[i].befores.iter().any(|&b| table.slots[b].in_flight());
     when(cover, waiting.iter().any(before), "write: refused 13, held by one in flight");
-    let (_, late) = rounds_of_striking(table, block);
-    when(cover, late, "write: refused 13, hard one struck after the first round");
+    let struck = rounds_of_striking(table, block).1;
+    when(cover, struck >= 2, "write: refused 13, hard one struck after the first round");
+    when(cover, struck >= 9, "write: refused 13, hard one struck after the eighth round");
 }

@@ -1,9 +1,9 @@
 //! One call with all it is given, what is lent to it, and what it answers.
 
-use crate::bytes::TABLE_BYTES;
-use crate::library::Library;
-use crate::random::Random;
-use crate::table::{BLOCK_BYTES, IMAGE_BYTES, Kind, UNDO_BYTES};
+use crate::library::calls::Library;
+use crate::model::bytes::TABLE_BYTES;
+use crate::model::table::{BLOCK_BYTES, IMAGE_BYTES, Kind, UNDO_BYTES};
+use crate::orders::random::Random;
 
 #[derive(Clone, PartialEq, Debug)]
 pub enum Call {
@@ -23,41 +23,51 @@ pub enum Buffer {
     Handed,
 }
 
-/// A call, and the buffers lent in another size than the exact one.
+/// A call, the buffers lent in another size than the exact one, and what came before it.
 #[derive(Clone, PartialEq, Debug)]
 pub struct Step {
     pub call: Call,
     pub odd: Vec<(Buffer, usize)>,
+    /// The power was cut, of the writes out those of these blocks landed, and the working image was filled from the store.
+    pub after_cut: Option<Vec<u32>>,
+}
+
+fn step(call: Call) -> Step {
+    Step { call, odd: Vec::new(), after_cut: None }
 }
 
 pub fn open(first: u32) -> Step {
-    Step { call: Call::Open { first }, odd: Vec::new() }
+    step(Call::Open { first })
 }
 
 pub fn create(block: u32, offset: u32, data: &[u8], named: &[u32]) -> Step {
-    let call = Call::Create { block, offset, data: data.to_vec(), named: named.to_vec() };
-    Step { call, odd: Vec::new() }
+    step(Call::Create { block, offset, data: data.to_vec(), named: named.to_vec() })
 }
 
 pub fn write(block: u32) -> Step {
-    Step { call: Call::Write { block }, odd: Vec::new() }
+    step(Call::Write { block })
 }
 
 pub fn complete(block: u32) -> Step {
-    Step { call: Call::Complete { block }, odd: Vec::new() }
+    step(Call::Complete { block })
 }
 
 pub fn ask(number: u32) -> Step {
-    Step { call: Call::Ask { number }, odd: Vec::new() }
+    step(Call::Ask { number })
 }
 
 pub fn count(block: u32) -> Step {
-    Step { call: Call::Count { block }, odd: Vec::new() }
+    step(Call::Count { block })
 }
 
 impl Step {
     pub fn lending(mut self, buffer: Buffer, size: usize) -> Step {
         self.odd.push((buffer, size));
+        self
+    }
+
+    pub fn after_cut(mut self, landed: &[u32]) -> Step {
+        self.after_cut = Some(landed.to_vec());
         self
     }
 
@@ -69,6 +79,44 @@ impl Step {
             Call::Complete { .. } => Kind::Complete,
             Call::Ask { .. } => Kind::Ask,
             Call::Count { .. } => Kind::Count,
+        }
+    }
+}
+
+impl Call {
+    /// The numbers that it names.
+    pub fn names(&mut self) -> Option<&mut Vec<u32>> {
+        match self {
+            Call::Create { named, .. } => Some(named),
+            Call::Open { .. }
+            | Call::Write { .. }
+            | Call::Complete { .. }
+            | Call::Ask { .. }
+            | Call::Count { .. } => None,
+        }
+    }
+
+    /// The number it asks for.
+    pub fn asked(&mut self) -> Option<&mut u32> {
+        match self {
+            Call::Ask { number } => Some(number),
+            Call::Open { .. }
+            | Call::Create { .. }
+            | Call::Write { .. }
+            | Call::Complete { .. }
+            | Call::Count { .. } => None,
+        }
+    }
+
+    /// The bytes of its change.
+    pub fn data(&mut self) -> Option<&mut Vec<u8>> {
+        match self {
+            Call::Create { data, .. } => Some(data),
+            Call::Open { .. }
+            | Call::Write { .. }
+            | Call::Complete { .. }
+            | Call::Ask { .. }
+            | Call::Count { .. } => None,
         }
     }
 }

@@ -1,10 +1,10 @@
 //! The model finds the largest set in two ways. They must agree, and the set must be the one of
 //! the definition: it may go, and every subset that may go lies in it.
 
-use crate::model::{Model, Right};
-use crate::random::Random;
-use crate::table::{Slots, Table};
-use crate::tables;
+use crate::model::rules::{Model, Right};
+use crate::model::table::{Slots, Table};
+use crate::orders::random::Random;
+use crate::orders::tables;
 
 const TABLES: usize = 4_000;
 /// Up to this many waiting patches every subset is tried.

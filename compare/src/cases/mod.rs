@@ -1,0 +1,6 @@
+//! Orders that are written down: the rows of document 01, tables with each clause broken, pasted orders; and the wrong models.
+
+pub mod fixed;
+pub mod pasted;
+pub mod sweep;
+pub mod wrong;

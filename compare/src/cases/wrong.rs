@@ -1,0 +1,387 @@
+//! Shows that the comparison can fail: models with one rule wrong each, standing in for the
+//! library. Each must be caught.
+
+use crate::cases::{fixed, sweep};
+use crate::judge::cover::Cover;
+use crate::judge::drive::Driver;
+use crate::judge::run::Pair;
+use crate::judge::shrink;
+use crate::library::calls::Library;
+use crate::model::mock::Mock;
+use crate::model::rules::{Model, Right};
+use crate::model::table::*;
+use crate::orders::steps::Answer;
+use std::collections::BTreeSet;
+
+/// Declares a wrong model: a name, and the rule it has instead.
+macro_rules! wrong {
+    ($name:ident: $($rule:tt)*) => {
+        struct $name;
+        impl Model for $name { $($rule)* }
+    };
+}
+
+wrong!(OffsetOnly: fn past_the_end(&self, offset: u32, _: usize) -> bool { offset > 255 });
+wrong!(OffsetOnlyThroughout:
+    fn past_the_end(&self, offset: u32, _: usize) -> bool { offset > 255 }
+    fn tests_clause(&self, clause: Clause) -> bool { clause != Clause::Ends }
+);
+wrong!(SumWraps: fn past_the_end(&self, offset: u32, length: usize) -> bool { offset.wrapping_add(length as u32) > 256 });
+wrong!(EndOffByOne: fn past_the_end(&self, offset: u32, length: usize) -> bool { u64::from(offset) + length as u64 > 255 });
+wrong!(InFlightIsCommitted: fn must_follow(&self, t: &Table, i: usize) -> Slots {
+    t.slots[i].befores.iter().copied().filter(|&b| t.slots[b].block == t.slots[i].block || t.slots[b].waiting()).collect()
+});
+wrong!(LowestFirst: fn order_of_taking_back(&self, t: &Table, left: &Slots) -> Vec<usize> {
+    Right.order_of_taking_back(t, left).into_iter().rev().collect()
+});
+wrong!(SlotOrder: fn order_of_taking_back(&self, _: &Table, left: &Slots) -> Vec<usize> { left.iter().copied().rev().collect() });
+wrong!(TakesNothingBack: fn take_back(&self, _: &Slot, _: &[u8], _: &mut [u8]) {});
+wrong!(HardLeftBehind: fn has_all_hard(&self, _: &Table, _: u32, _: &Slots) -> bool { true });
+wrong!(NoSlotIsUnknown: fn never_issued(&self, t: &Table, number: u32) -> bool { t.slot_of(number).is_none() });
+wrong!(NextIsIssued: fn never_issued(&self, t: &Table, number: u32) -> bool { number < t.first || number > t.next });
+wrong!(OnePass: fn largest_that_may_go(&self, t: &Table, block: u32) -> Slots {
+    let waiting = t.waiting(block);
+    let kept: Slots = waiting.iter().copied().filter(|&i| t.slots[i].befores.is_subset(&waiting)).collect();
+    if self.has_all_hard(t, block, &kept) { kept } else { Slots::new() }
+});
+wrong!(SmallestSet: fn largest_that_may_go(&self, t: &Table, block: u32) -> Slots {
+    let largest = Right.largest_that_may_go(t, block);
+    let hard = t.hard_waiting(block);
+    if !hard.is_empty() && self.may_go(t, block, &hard) { hard } else { largest }
+});
+wrong!(TouchingOverlaps: fn share_a_byte(&self, p: &Slot, start: u64, end: u64) -> bool { u64::from(p.offset) <= end && start <= p.end() });
+wrong!(OverlapOnlyWaiting: fn overlaps(&self, p: &Slot, change: &Change) -> bool { p.waiting() && Right.overlaps(p, change) });
+wrong!(OverlapOnEveryBlock: fn overlaps(&self, p: &Slot, c: &Change) -> bool { Right.overlaps(&Slot { block: c.block, ..p.clone() }, c) });
+wrong!(NamesOnlyWaiting: fn befores(&self, t: &Table, change: &Change) -> Slots {
+    Right.befores(t, change).into_iter().filter(|&i| t.slots[i].waiting() || Right.overlaps(&t.slots[i], change)).collect()
+});
+wrong!(SlotsFromOne: fn lowest_free_slot(&self, t: &Table) -> Option<usize> { (1..SLOTS).find(|&i| !t.slots[i].used()) });
+wrong!(HighestSlot: fn lowest_free_slot(&self, t: &Table) -> Option<usize> { (0..SLOTS).rev().find(|&i| !t.slots[i].used()) });
+wrong!(FifteenRooms: fn lowest_free_room(&self, t: &Table) -> Option<u32> { (0..ROOMS - 1).find(|r| !t.rooms_taken().contains(r)) });
+wrong!(SoftStaysSoft: fn turn_waiting_soft_hard(&self, _: &mut Table, _: u32) {});
+wrong!(TurnsEveryBlock: fn turn_waiting_soft_hard(&self, t: &mut Table, _: u32) { (0..64).for_each(|b| Right.turn_waiting_soft_hard(t, b)) });
+wrong!(AlwaysHard: fn would_be_hard(&self, _: &Table, _: u32) -> bool { true });
+wrong!(InFlightHoldsSoft: fn would_be_hard(&self, t: &Table, block: u32) -> bool {
+    !t.patches().any(|(_, p)| p.block != block && p.befores.iter().any(|&b| t.slots[b].block == block))
+});
+wrong!(OnlyWaitingHoldsSoft: fn would_be_hard(&self, t: &Table, block: u32) -> bool {
+    !t.patches().any(|(_, p)| p.block != block && p.waiting() && !p.befores.is_disjoint(&t.waiting(block)))
+});
+wrong!(RoomWiped: fn keep_old_bytes(&self, undo: &mut [u8], room: u32, old: &[u8]) {
+    undo[64 * room as usize..][..64].fill(0);
+    Right.keep_old_bytes(undo, room, old);
+});
+wrong!(RoomForgotten: fn keep_old_bytes(&self, _: &mut [u8], _: u32, _: &[u8]) {});
+wrong!(SentLosesBefores: fn send(&self, p: &mut Slot) { Right.send(p); p.befores.clear(); });
+wrong!(BeforesKept: fn forget_committed(&self, _: &mut Slot, _: &Slots) {});
+wrong!(CleansFreeSlots: fn complete(&self, t: &mut Table, block: u32) -> Result<(), Refusal> {
+    Right.complete(t, block)?;
+    t.slots.iter_mut().filter(|slot| !slot.used()).for_each(|slot| *slot = Slot::free());
+    Ok(())
+});
+wrong!(CountsInFlight: fn counted(&self, t: &Table, block: u32) -> Slots { t.waiting(block).union(&t.in_flight(block)).copied().collect() });
+wrong!(AskSaysCommitted: fn ask(&self, t: &Table, number: u32) -> Result<Standing, Refusal> {
+    Right.ask(t, number).map(|s| if s == Standing::InFlight { Standing::Committed } else { s })
+});
+/// Two tests in the other order.
+struct Swapped(Kind, Refusal, Refusal);
+
+impl Model for Swapped {
+    fn tests(&self, kind: Kind) -> Vec<Refusal> {
+        let swap = |test| match test {
+            test if test == self.1 => self.2,
+            test if test == self.2 => self.1,
+            test => test,
+        };
+        if kind == self.0 { Right.tests(kind).into_iter().map(swap).collect() } else { Right.tests(kind) }
+    }
+}
+
+wrong!(AlwaysNumberOne: fn create(&self, t: &mut Table, i: &mut [u8], u: &mut [u8], c: &Change) -> Result<(u32, State), Refusal> {
+    Right.create(t, i, u, c).map(|(_, state)| (1, state))
+});
+wrong!(TouchesNothing: fn create(&self, t: &mut Table, i: &mut [u8], u: &mut [u8], c: &Change) -> Result<(u32, State), Refusal> {
+    Right.create(&mut t.clone(), &mut i.to_vec(), &mut u.to_vec(), c)
+});
+wrong!(OpenKeepsFirst: fn open(&self, first: u32) -> (Result<(), Refusal>, Table) { (Right.open(first).0, Table::empty(first)) });
+wrong!(RefusesEverything: fn judge(&self, kind: Kind, t: &Table, asked: &Asked) -> Result<(), Refusal> {
+    Right.judge(kind, t, asked)?;
+    self.tests(kind).pop().map_or(Ok(()), Err)
+});
+wrong!(LaterWritesOnlySaid: fn write(&self, t: &mut Table, i: &[u8], u: &[u8], h: &mut [u8], b: u32) -> Result<Slots, Refusal> {
+    let first = t.patches().filter(|(_, p)| p.waiting()).count() == (t.next - t.first.min(t.next)) as usize;
+    if first { Right.write(t, i, u, h, b) } else { Right.write(&mut t.clone(), i, u, &mut h.to_vec(), b) }
+});
+wrong!(InventedCount: fn count(&self, t: &Table, block: u32) -> Result<u32, Refusal> { Right.count(t, block).map(|_| block % 3) });
+wrong!(OnlyLastRoomShared: fn clause_holds(&self, clause: Clause, t: &Table) -> bool {
+    let last = t.rooms_taken().into_iter().filter(|&room| room == 15).count() < 2;
+    if clause == Clause::RoomsDiffer { last } else { Right.clause_holds(clause, t) }
+});
+wrong!(HighRoomsPass: fn clause_holds(&self, clause: Clause, t: &Table) -> bool {
+    let low = t.rooms_taken().into_iter().all(|room| room < 16 || (17..64).contains(&room));
+    if clause == Clause::Rooms { low } else { Right.clause_holds(clause, t) }
+});
+wrong!(RemainsAreUsed: fn clause_holds(&self, clause: Clause, t: &Table) -> bool {
+    let used = |b: &usize| t.slots[*b] != Slot::free();
+    if clause == Clause::BeforesUsed { t.patches().all(|(_, p)| p.befores.iter().all(used)) } else { Right.clause_holds(clause, t) }
+});
+wrong!(NeighboursDiffer: fn clause_holds(&self, clause: Clause, t: &Table) -> bool {
+    let differ = t.slots.windows(2).all(|s| !s[0].used() || !s[1].used() || s[0].number != s[1].number);
+    if clause == Clause::NumbersDiffer { differ } else { Right.clause_holds(clause, t) }
+});
+wrong!(LastSlotUnjudged: fn sound(&self, t: &Table) -> bool {
+    let mut shown = t.clone();
+    shown.slots[63] = Slot { befores: Slots::new(), ..Slot::free() };
+    shown.slots.iter_mut().for_each(|slot| { slot.befores.remove(&63); });
+    Right.sound(&shown)
+});
+wrong!(RemainsJudged: fn sound(&self, t: &Table) -> bool {
+    Right.sound(t) && t.slots.iter().filter(|slot| !slot.used()).all(|slot| slot.block <= LAST_BLOCK)
+});
+wrong!(FirstBelowLast: fn sound(&self, t: &Table) -> bool { Right.sound(t) && t.first < LAST_NUMBER });
+wrong!(NextAtMostLast: fn sound(&self, t: &Table) -> bool { Right.sound(t) && t.next <= LAST_NUMBER });
+wrong!(CommittedLongAgoUnknown: fn never_issued(&self, t: &Table, number: u32) -> bool {
+    Right.never_issued(t, number) || (t.slot_of(number).is_none() && t.next - number > 65_536)
+});
+wrong!(NamesInEightBits: fn too_many_names(&self, names: usize) -> bool { names % 256 > MOST_NAMED });
+wrong!(LengthInEightBits: fn holds(&self, refusal: Refusal, t: &Table, asked: &Asked) -> bool {
+    let length = asked.length % 256;
+    if refusal == Refusal::DataLength { length == 0 || length > LONGEST_DATA } else { Right.holds(refusal, t, asked) }
+});
+wrong!(OrderBySixteenBits: fn order_of_taking_back(&self, t: &Table, left: &Slots) -> Vec<usize> {
+    let mut order: Vec<usize> = left.iter().copied().collect();
+    order.sort_by_key(|&slot| std::cmp::Reverse(t.slots[slot].number % 65_536));
+    order
+});
+wrong!(FifteenTakenBack: fn order_of_taking_back(&self, t: &Table, left: &Slots) -> Vec<usize> {
+    Right.order_of_taking_back(t, left).into_iter().take(15).collect()
+});
+wrong!(HardSeenInEightRounds: fn largest_that_may_go(&self, t: &Table, block: u32) -> Slots {
+    let mut left = t.waiting(block);
+    for round in 1.. {
+        let struck: Slots = left.iter().copied().filter(|&i| !t.slots[i].befores.is_subset(&left)).collect();
+        if struck.is_empty() { break }
+        if round <= 8 && !struck.is_disjoint(&t.hard_waiting(block)) { return Slots::new() }
+        left.retain(|i| !struck.contains(i));
+    }
+    left
+});
+wrong!(CirclesStay: fn largest_that_may_go(&self, t: &Table, block: u32) -> Slots {
+    let mut largest = Right.largest_that_may_go(t, block);
+    largest.retain(|&i| !Right.all_that_stands_before(t, i).contains(&i));
+    largest
+});
+wrong!(TurnsOnlyTheLowest: fn turn_waiting_soft_hard(&self, t: &mut Table, block: u32) {
+    if let Some(slot) = t.waiting(block).into_iter().find(|&i| t.slots[i].room().is_some()) { t.slots[slot].state = State::WaitingHard }
+});
+wrong!(ForgetsTheLowestOnly: fn forget_committed(&self, p: &mut Slot, committed: &Slots) {
+    committed.first().map(|lowest| p.befores.remove(lowest));
+});
+
+fn low_byte_of_room(slot: &mut Slot) {
+    if let State::WaitingSoft { room } = &mut slot.state {
+        *room %= 256;
+    }
+}
+
+/// Reads each slot in another way, before it judges the table.
+struct Reads(fn(&mut Slot));
+
+impl Model for Reads {
+    fn sound(&self, table: &Table) -> bool {
+        let mut read = table.clone();
+        read.slots.iter_mut().for_each(self.0);
+        Right.sound(&read)
+    }
+}
+
+/// Tells numbers apart by what is left of them when divided by this.
+struct ApartBy(u32);
+
+impl Model for ApartBy {
+    fn sound(&self, table: &Table) -> bool {
+        let digits: BTreeSet<u32> = table.patches().map(|(_, p)| p.number % self.0).collect();
+        Right.sound(table) && digits.len() == table.patches().count()
+    }
+}
+
+/// Does not test one clause of soundness.
+struct Forgets(Clause);
+
+impl Model for Forgets {
+    fn tests_clause(&self, clause: Clause) -> bool {
+        clause != self.0
+    }
+}
+
+/// A wrong model behind the library's interface, and whether the cuts alone must catch it.
+struct Entry {
+    name: String,
+    library: Box<dyn Library>,
+    cuts_must: bool,
+}
+
+fn entry(name: &str, model: impl Model + 'static, cuts_must: bool) -> Entry {
+    Entry { name: String::from(name), library: Box::new(Mock(model)), cuts_must }
+}
+
+fn entries() -> Vec<Entry> {
+    let mut entries = vec![
+        entry("only the offset is tested, not its end", OffsetOnly, false),
+        entry("the same, in judging the table too", OffsetOnlyThroughout, true),
+        entry("in flight elsewhere treated as committed", InFlightIsCommitted, true),
+        entry("taken back lowest number first", LowestFirst, true),
+        entry("a hard patch left behind", HardLeftBehind, true),
+        entry("a number in no slot is unknown", NoSlotIsUnknown, false),
+        entry("one pass of striking", OnePass, true),
+        entry("offset + length wraps in 32 bits", SumWraps, false),
+        entry("the end of the block off by one", EndOffByOne, false),
+        entry("taken back in order of slots", SlotOrder, true),
+        entry("nothing taken back", TakesNothingBack, true),
+        entry("the coming number passes for issued", NextIsIssued, false),
+        entry("hard ones go alone where they may", SmallestSet, false),
+        entry("touching ranges overlap", TouchingOverlaps, false),
+        entry("overlap with one in flight is no before", OverlapOnlyWaiting, false),
+        entry("overlap across blocks", OverlapOnEveryBlock, false),
+        entry("a named number in flight is no before", NamesOnlyWaiting, true),
+        entry("slots from 1", SlotsFromOne, true),
+        entry("highest free slot", HighestSlot, true),
+        entry("fifteen rooms", FifteenRooms, false),
+        entry("room not freed: soft stays soft", SoftStaysSoft, false),
+        entry("soft of every block turns hard", TurnsEveryBlock, false),
+        entry("always hard", AlwaysHard, false),
+        entry("in flight and followed makes soft", InFlightHoldsSoft, false),
+        entry("only waiting followers make soft", OnlyWaitingHoldsSoft, false),
+        entry("rest of the room wiped", RoomWiped, false),
+        entry("old bytes not kept", RoomForgotten, true),
+        entry("a sent patch loses its befores", SentLosesBefores, false),
+        entry("befores kept on complete", BeforesKept, false),
+        entry("free slots cleaned on complete", CleansFreeSlots, false),
+        entry("count counts in flight", CountsInFlight, false),
+        entry("ask says committed for in flight", AskSaysCommitted, false),
+        entry("create: 5 before 4", Swapped(Kind::Create, Refusal::DataLength, Refusal::PastTheEnd), false),
+        entry(
+            "create: 8 before 7",
+            Swapped(Kind::Create, Refusal::NeverIssued, Refusal::NoNumberLeft),
+            false,
+        ),
+        entry("create: 10 before 9", Swapped(Kind::Create, Refusal::NoFreeSlot, Refusal::NoFreeRoom), false),
+        entry("write: 12 before 11", Swapped(Kind::Write, Refusal::OneInFlight, Refusal::NoneWaits), false),
+        entry("answers number 1 each time", AlwaysNumberOne, true),
+        entry("says granted, touches nothing", TouchesNothing, true),
+        entry("refuses everything", RefusesEverything, false),
+        entry("later writes only said", LaterWritesOnlySaid, false),
+        entry("a count that is invented", InventedCount, true),
+        entry("numbers told apart by ten digits alone", ApartBy(1_024), false),
+        entry("numbers told apart by twelve digits alone", ApartBy(4_096), false),
+        entry("only room 15 must not be shared", OnlyLastRoomShared, false),
+        entry("rooms 17 to 63 pass", HighRoomsPass, false),
+        entry("a table's block by its low byte", Reads(|slot| slot.block %= 256), false),
+        entry("a table's length by its low byte", Reads(|slot| slot.length %= 256), false),
+        entry("a table's offset by its low 16 digits", Reads(|slot| slot.offset %= 65_536), false),
+        entry("a table's number by its low 24 digits", Reads(|slot| slot.number %= 1 << 24), false),
+        entry("a table's room by its low byte", Reads(low_byte_of_room), false),
+        entry("a before that has remains passes for used", RemainsAreUsed, false),
+        entry("only neighbours must have other numbers", NeighboursDiffer, false),
+        entry("slot 63 is not judged", LastSlotUnjudged, false),
+        entry("remains in free slots are judged", RemainsJudged, false),
+        entry("first 1,000,000,000 is not sound", FirstBelowLast, false),
+        entry("next 1,000,000,001 is not sound", NextAtMostLast, false),
+        entry("committed 65,537 numbers ago is unknown", CommittedLongAgoUnknown, false),
+        entry("names counted in 8 bits", NamesInEightBits, false),
+        entry("data length in 8 bits", LengthInEightBits, false),
+        entry("taken back by the low 16 digits", OrderBySixteenBits, false),
+        entry("at most 15 taken back", FifteenTakenBack, false),
+        entry("a struck hard one seen in 8 rounds only", HardSeenInEightRounds, false),
+        entry("befores in a circle never go", CirclesStay, false),
+        entry("only the lowest soft one turns hard", TurnsOnlyTheLowest, false),
+        entry("only the lowest committed is forgotten", ForgetsTheLowestOnly, false),
+        entry("open refused keeps the first given", OpenKeepsFirst, false),
+    ];
+    for clause in CLAUSES {
+        entries.push(entry(&format!("soundness without {clause:?}"), Forgets(clause), false));
+    }
+    entries
+}
+
+/// The most calls given to the comparison, and to the cuts alone, to catch a wrong model.
+const COMPARE_CALLS: u64 = 500_000;
+const CUT_CALLS: u64 = 20_000;
+const SEED: u64 = 7;
+
+/// At which call a wrong model was caught, and by what.
+struct Caught {
+    calls: u64,
+    by: String,
+}
+
+fn caught_by_cuts(library: &dyn Library) -> Option<u64> {
+    let mut driver = Driver::new(Pair { library, model: None });
+    driver.run(SEED, CUT_CALLS, &mut |_| ()).err().map(|_| driver.sums.calls)
+}
+
+/// The fixed cases first, then the sweep over tables, then orders: as in every run.
+fn caught(pair: Pair, show: bool) -> Option<Caught> {
+    let mut driver = Driver::new(pair);
+    let mut before = 0;
+    for (name, run) in [("fixed cases", fixed::run as Written), ("tables", sweep::run as Written)] {
+        match run(pair, &mut driver.cover) {
+            Ok(calls) => before += calls as u64,
+            Err((calls, what)) => {
+                let first = if show { &what } else { what.lines().next().unwrap_or("") };
+                return Some(Caught { calls: before + calls as u64, by: format!("{name}: {first}") });
+            }
+        }
+    }
+    let failed = *driver.run(SEED, COMPARE_CALLS - before, &mut |_| ()).err()?;
+    let (order, failure) = shrink::shrink(pair, failed.order, failed.failure);
+    let last = order.steps.last().map(|step| format!("{:?}", step.kind())).unwrap_or_default();
+    let what = failure.what.lines().next().unwrap_or("").trim_end_matches(':');
+    let answers = failure.model.map_or(String::new(), |m| both(&failure.library, &m));
+    let mut by = format!("orders, {} calls: {last}: {what}{answers}", order.steps.len());
+    if show {
+        by = format!("{by}\n{}", shrink::printed(&order, &failure));
+    }
+    Some(Caught { calls: before + driver.sums.calls, by })
+}
+
+type Written = fn(Pair, &mut Cover) -> Result<usize, (usize, String)>;
+
+/// Runs every wrong model; true when all were caught.
+pub fn run(show: bool) -> bool {
+    let right = Mock(Right);
+    let mut all_caught = true;
+    println!("{:42} {:>8} {:>9}  caught by", "wrong model", "at call", "cuts only");
+    for Entry { name, library, cuts_must } in entries() {
+        let by_cuts = caught_by_cuts(&*library);
+        let cuts = by_cuts.map_or(String::from("-"), |calls| calls.to_string());
+        match caught(Pair { library: &*library, model: Some(&right) }, show) {
+            Some(Caught { calls, by }) => println!("{name:42} {calls:>8} {cuts:>9}  {by}"),
+            None => {
+                println!("{name:42} NOT CAUGHT in {COMPARE_CALLS} calls");
+                all_caught = false;
+            }
+        }
+        if cuts_must && by_cuts.is_none() {
+            println!("{:42} NOT CAUGHT by the cuts alone in {CUT_CALLS} calls", "");
+            all_caught = false;
+        }
+    }
+    all_caught
+}
+
+/// What differs in two answers, wrong one first.
+fn both(wrong: &Answer, right: &Answer) -> String {
+    let fields = [
+        ("refusal", u64::from(wrong.refusal), u64::from(right.refusal)),
+        ("number", u64::from(wrong.number), u64::from(right.number)),
+        ("hold", u64::from(wrong.hold), u64::from(right.hold)),
+        ("set", wrong.set, right.set),
+        ("state", u64::from(wrong.state), u64::from(right.state)),
+        ("count", u64::from(wrong.count), u64::from(right.count)),
+    ];
+    match fields.iter().find(|(_, wrong, right)| wrong != right) {
+        Some((field, wrong, right)) => format!(", {field} {wrong} for {right}"),
+        None => String::new(),
+    }
+}

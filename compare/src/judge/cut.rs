@@ -1,0 +1,278 @@
+//! What the store holds when the power goes. The history is kept from the calls and their answers
+//! alone, never from the library's table.
+//!
+//! Completed writes have landed; of the writes still out any may have landed. However that is, the
+//! store must be the opening with the landed changes carried out singly in the order they were
+//! accepted, and whatever a landed change named must have landed too.
+//!
+//! A number may stand for several changes; a change that names it asks for those accepted earlier.
+
+use crate::judge::cover::Cover;
+use crate::model::bytes::set_of;
+use crate::model::table::{BLOCK_BYTES, SLOTS};
+use crate::orders::steps::{Answer, Call, Lent};
+use std::collections::{BTreeMap, BTreeSet};
+
+/// An accepted change; its place among all of them is the order.
+struct Accepted {
+    number: u32,
+    block: u32,
+    offset: u32,
+    data: Vec<u8>,
+    named: Vec<u32>,
+}
+
+/// A granted write that is out, and the numbers it sent.
+struct Out {
+    handed: Vec<u8>,
+    numbers: BTreeSet<u32>,
+}
+
+pub struct History {
+    opening: Vec<u8>,
+    /// The opening with the blocks of all completed writes.
+    store: Vec<u8>,
+    accepted: Vec<Accepted>,
+    out: BTreeMap<u32, Out>,
+    /// The numbers that completed writes sent.
+    landed: BTreeSet<u32>,
+    /// The number in each slot, by the rule of the lowest free slot.
+    slots: Vec<Option<u32>>,
+}
+
+impl History {
+    pub fn opened(image: &[u8]) -> History {
+        History {
+            opening: image.to_vec(),
+            store: image.to_vec(),
+            accepted: Vec::new(),
+            out: BTreeMap::new(),
+            landed: BTreeSet::new(),
+            slots: vec![None; SLOTS],
+        }
+    }
+
+    /// Notes a granted call, and holds its answer to the notes.
+    pub fn record(
+        &mut self,
+        call: &Call,
+        answer: &Answer,
+        handed: &[u8],
+        cover: &mut Cover,
+    ) -> Result<(), String> {
+        match call {
+            Call::Open { .. } => Err(String::from("an opening begins a history, and is none of its calls")),
+            Call::Create { block, offset, data, named } => {
+                let (number, data, named) = (answer.number, data.clone(), named.clone());
+                self.accept(Accepted { number, block: *block, offset: *offset, data, named })
+            }
+            Call::Write { block } => self.send(*block, answer.set, handed),
+            Call::Complete { block } => self.complete(*block, cover),
+            Call::Ask { number } => self.asked(*number, answer.state, cover),
+            Call::Count { block } => self.counted(*block, answer.count),
+        }
+    }
+
+    fn accept(&mut self, change: Accepted) -> Result<(), String> {
+        if self.changes_of(change.number).next().is_some() {
+            return Err(format!("number {} was given twice", change.number));
+        }
+        if let Some(unknown) = change.named.iter().find(|&&number| self.changes_of(number).next().is_none()) {
+            return Err(format!("a change was accepted that names {unknown}, which was never given"));
+        }
+        let Some(free) = self.slots.iter_mut().find(|slot| slot.is_none()) else {
+            return Err(String::from("a change was accepted with all slots in use"));
+        };
+        *free = Some(change.number);
+        self.accepted.push(change);
+        Ok(())
+    }
+
+    fn changes_of(&self, number: u32) -> impl Iterator<Item = &Accepted> {
+        self.accepted.iter().filter(move |change| change.number == number)
+    }
+
+    fn sent(&self, number: u32) -> bool {
+        self.landed.contains(&number) || self.out.values().any(|out| out.numbers.contains(&number))
+    }
+
+    fn send(&mut self, block: u32, set: u64, handed: &[u8]) -> Result<(), String> {
+        if self.out.contains_key(&block) {
+            return Err(format!("a write of block {block} was granted with one of it out"));
+        }
+        let numbers: Option<BTreeSet<u32>> = set_of(set).into_iter().map(|slot| self.slots[slot]).collect();
+        let numbers = numbers.ok_or("a slot was sent that holds no change")?;
+        for &number in &numbers {
+            if self.sent(number) {
+                return Err(format!("number {number} was sent twice"));
+            }
+            if self.changes_of(number).any(|change| change.block != block) {
+                return Err(format!("number {number} was sent to block {block}, which is not its own"));
+            }
+        }
+        self.out.insert(block, Out { handed: handed.to_vec(), numbers });
+        Ok(())
+    }
+
+    fn complete(&mut self, block: u32, cover: &mut Cover) -> Result<(), String> {
+        let Some(out) = self.out.remove(&block) else {
+            return Err(format!("completion of block {block} was granted with no write of it out"));
+        };
+        let lowest =
+            self.accepted.iter().position(|change| out.numbers.contains(&change.number)).unwrap_or(0);
+        let later = &self.accepted[lowest..];
+        if later.iter().any(|change| change.block == block && self.landed.contains(&change.number)) {
+            cover.add("cut: a lower number landed after a higher one of its block", 0);
+        }
+        land(&mut self.store, block, &out.handed);
+        for slot in &mut self.slots {
+            slot.take_if(|number| out.numbers.contains(number));
+        }
+        self.landed.extend(out.numbers);
+        Ok(())
+    }
+
+    fn asked(&self, number: u32, state: u32, cover: &mut Cover) -> Result<(), String> {
+        let noted = match (self.sent(number), self.landed.contains(&number)) {
+            (false, _) => 1,
+            (true, false) => 2,
+            (true, true) => 3,
+        };
+        cover.add("cut: ask as noted", noted);
+        if state == noted { Ok(()) } else { Err(format!("ask says {state} of {number}, the notes {noted}")) }
+    }
+
+    fn counted(&self, block: u32, count: u32) -> Result<(), String> {
+        let here = self.accepted.iter().filter(|change| change.block == block);
+        let waiting: BTreeSet<u32> =
+            here.map(|change| change.number).filter(|&number| !self.sent(number)).collect();
+        if waiting.len() == count as usize {
+            Ok(())
+        } else {
+            Err(format!("{count} counted for {}", waiting.len()))
+        }
+    }
+
+    /// What a store that lost its power now would hold, with the writes of these blocks landed.
+    pub fn store_after(&self, landed: &[u32]) -> Vec<u8> {
+        let mut store = self.store.clone();
+        for (block, out) in self.out.iter().filter(|(block, _)| landed.contains(block)) {
+            land(&mut store, *block, &out.handed);
+        }
+        store
+    }
+
+    pub fn blocks_out(&self) -> Vec<u32> {
+        self.out.keys().copied().collect()
+    }
+
+    /// Cuts with none of the writes out landed, with each of them alone, and with all.
+    ///
+    /// That is every cut there is: each change sent is of its write's block, so a block's bytes depend on its own write alone, and
+    /// what one change asked of another on the two writes alone.
+    pub fn cut(&self, cover: &mut Cover) -> Result<(), String> {
+        let blocks = self.blocks_out();
+        cover.add("cut: no write out landed", 0);
+        self.cut_with(&[], cover)?;
+        for &block in &blocks {
+            self.cut_alone(block)?;
+            if blocks.len() >= 2 {
+                cover.add("cut: one write out of several landed", 0);
+            }
+        }
+        if !blocks.is_empty() {
+            cover.add("cut: all writes out landed", 0);
+            self.cut_with(&blocks, cover)?;
+        }
+        Ok(())
+    }
+
+    fn cut_with(&self, blocks: &[u32], cover: &mut Cover) -> Result<(), String> {
+        let landed = |change: &Accepted| {
+            let now = |block: &u32| self.out[block].numbers.contains(&change.number);
+            self.landed.contains(&change.number) || blocks.iter().any(now)
+        };
+        self.nothing_asked_is_missing(&landed, cover)?;
+        let mut expected = self.opening.clone();
+        self.accepted
+            .iter()
+            .filter(|change| landed(change))
+            .for_each(|change| carry_out(&mut expected, change));
+        same_bytes(&self.store_after(blocks), &expected, 0, blocks)
+    }
+
+    /// Only the block that landed differs from the cut with none.
+    fn cut_alone(&self, block: u32) -> Result<(), String> {
+        let out = &self.out[&block];
+        let landed =
+            |change: &Accepted| self.landed.contains(&change.number) || out.numbers.contains(&change.number);
+        self.nothing_asked_is_missing(&landed, &mut Cover::default())?;
+        let start = BLOCK_BYTES * block as usize;
+        let mut expected = self.opening[start..start + BLOCK_BYTES].to_vec();
+        for change in self.accepted.iter().filter(|change| change.block == block && landed(change)) {
+            carry(&mut expected, change.offset as usize, &change.data);
+        }
+        same_bytes(&out.handed, &expected, start, &[block])
+    }
+
+    /// Asked of every landed change, so it covers what is named through others as well.
+    fn nothing_asked_is_missing(
+        &self,
+        landed: &dyn Fn(&Accepted) -> bool,
+        cover: &mut Cover,
+    ) -> Result<(), String> {
+        let mut missing = BTreeSet::new();
+        for change in &self.accepted {
+            if !landed(change) {
+                missing.insert(change.number);
+                continue;
+            }
+            if let Some(named) = change.named.iter().find(|named| missing.contains(named)) {
+                return Err(format!("change {} landed, {named}, which it names, did not", change.number));
+            }
+            if !change.named.is_empty() {
+                cover.add("cut: a landed change names a landed one", 0);
+            }
+        }
+        Ok(())
+    }
+
+    /// When every accepted change has committed, the store is the working image.
+    pub fn settled(&self, lent: &Lent, cover: &mut Cover) -> Result<(), String> {
+        if self.slots.iter().all(|slot| slot.is_none()) && !self.accepted.is_empty() {
+            cover.add("cut: all committed, store equals working image", 0);
+            if self.store != lent.image {
+                return Err(String::from("all changes committed, but the store is not the working image"));
+            }
+        }
+        Ok(())
+    }
+}
+
+/// `start` is where the bytes stand in the store.
+fn same_bytes(store: &[u8], expected: &[u8], start: usize, blocks: &[u32]) -> Result<(), String> {
+    if store == expected {
+        return Ok(());
+    }
+    let at = (0..expected.len()).find(|&i| store.get(i) != Some(&expected[i])).unwrap_or(0);
+    let (block, offset) = ((start + at) / BLOCK_BYTES, (start + at) % BLOCK_BYTES);
+    let (has, wanted) = (store.get(at), expected[at]);
+    Err(format!(
+        "cut with the writes of blocks {blocks:?} landed: the store's block {block} has {has:?} at \
+         offset {offset}, the landed changes singly give {wanted}"
+    ))
+}
+
+fn land(store: &mut [u8], block: u32, handed: &[u8]) {
+    carry(store, BLOCK_BYTES * block as usize, handed);
+}
+
+fn carry_out(store: &mut [u8], change: &Accepted) {
+    carry(store, BLOCK_BYTES * change.block as usize + change.offset as usize, &change.data);
+}
+
+fn carry(store: &mut [u8], from: usize, bytes: &[u8]) {
+    for (place, byte) in store.iter_mut().skip(from).zip(bytes) {
+        *place = *byte;
+    }
+}
