@@ -6,7 +6,7 @@ use crate::judge::run::{Order, Pair, Run};
 use crate::judge::shrink;
 use crate::model::bytes::encoded;
 use crate::model::rules::{Model, Right};
-use crate::model::table::{LAST_NUMBER, SLOTS, Slots, State, Table};
+use crate::model::table::{KINDS, Kind, LAST_NUMBER, SLOTS, Slots, State, Table};
 use crate::orders::steps::{Step, ask, complete, count, create, write};
 use crate::orders::tables::{BREAKS, full};
 
@@ -68,14 +68,15 @@ fn at_bounds() -> impl Iterator<Item = Table> {
     })
 }
 
-/// A call that would not be refused before the table is judged, each kind in turn.
+/// A call that would not be refused before the table is judged, each kind in turn but open, which judges no table.
 fn call(turn: usize, table: &Table) -> Step {
-    match turn % 5 {
-        0 => count(turn as u32 % 64),
-        1 => create(turn as u32 % 64, 8, &[7; 3], &[]),
-        2 => ask(table.first),
-        3 => write(turn as u32 % 64),
-        _ => complete(turn as u32 % 64),
+    let block = turn as u32 % 64;
+    match KINDS[turn % KINDS.len()] {
+        Kind::Open | Kind::Count => count(block),
+        Kind::Create => create(block, 8, &[7; 3], &[]),
+        Kind::Write => write(block),
+        Kind::Complete => complete(block),
+        Kind::Ask => ask(table.first),
     }
 }
 

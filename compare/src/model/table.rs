@@ -157,7 +157,7 @@ impl Slot {
     pub fn room(&self) -> Option<u32> {
         match self.state {
             State::WaitingSoft { room } => Some(room),
-            _ => None,
+            State::Free | State::WaitingHard | State::InFlightHard | State::InFlightSoft => None,
         }
     }
 

@@ -1,10 +1,15 @@
 //! Makes call orders from a seed. The next call is chosen with an eye on the table as it stands,
 //! so that orders reach full slots, full rooms, overlaps, chains over blocks and every refusal.
 
-use crate::model::table::{BLOCK_BYTES, LAST_BLOCK, LAST_NUMBER, LONGEST_DATA, MOST_NAMED, ROOMS, Table};
+use crate::model::table::{
+    BLOCK_BYTES, Kind, LAST_BLOCK, LAST_NUMBER, LONGEST_DATA, MOST_NAMED, ROOMS, Table,
+};
 use crate::orders::faults;
 use crate::orders::random::Random;
-use crate::orders::steps::{Step, ask, complete, count, create, write};
+use crate::orders::steps::{Step, ask, complete, count, create, open, write};
+
+/// The calls that an order chooses among. Openings come from elsewhere.
+const KINDS_CHOSEN: [Kind; 5] = [Kind::Create, Kind::Write, Kind::Complete, Kind::Ask, Kind::Count];
 
 /// What an order likes to do.
 #[derive(Clone, Debug)]
@@ -17,8 +22,8 @@ pub struct Taste {
     pub naming: u32,
     /// Each change names the one made last.
     pub chain: bool,
-    /// How often create, write, complete, ask and count come.
-    pub weights: [u32; 5],
+    /// How often each of the calls in `KINDS_CHOSEN` comes.
+    pub weights: [u32; KINDS_CHOSEN.len()],
     /// Percent of the calls that have some fault.
     pub faults: u32,
 }
@@ -102,14 +107,15 @@ impl Maker {
             at -= self.taste.weights[choice];
             choice += 1;
         }
-        match choice {
-            0 if crowded(table) && self.random.percent(70) => self.relieve(table),
-            0 => self.create(table),
-            1 => self.write(table),
-            2 if none_in_flight(table) && self.random.percent(70) => self.write(table),
-            2 => self.complete(table),
-            3 => ask(self.number(table)),
-            _ => count(self.random.pick(&self.taste.blocks)),
+        match KINDS_CHOSEN[choice] {
+            Kind::Open => open(first_number(&mut self.random)),
+            Kind::Create if crowded(table) && self.random.percent(70) => self.relieve(table),
+            Kind::Create => self.create(table),
+            Kind::Write => self.write(table),
+            Kind::Complete if none_in_flight(table) && self.random.percent(70) => self.write(table),
+            Kind::Complete => self.complete(table),
+            Kind::Ask => ask(self.number(table)),
+            Kind::Count => count(self.random.pick(&self.taste.blocks)),
         }
     }
 
