@@ -1,28 +1,35 @@
 /* The write-before cache for C: six functions over plain numbers and lent bytes, proved in crates/board.
  *
- * Each returns the refusal number of the paper, 0 where it is granted, and writes what else it answers through its
- * pointers to single numbers (refused: 0). Nothing is asked of the values: whatever is wrong is refused by number.
+ * The radio makes changes, each to one block of 256 bytes and each naming earlier changes that must reach the store first. The
+ * cache says what may be sent, and with which bytes. docs/RULES.md has the rules and the words.
  *
- * Asked of C, as of any callee that takes a pointer with a length: a pointer is not null and is valid for its length,
- * what is passed as an array of 32-bit or 64-bit numbers is aligned, and no two of a call's pointers reach the same
- * byte, unless both are to const. No call keeps a pointer or allocates, and none calls anything but C's memcpy.
+ * Each function returns a refusal number, 0 where it is granted, and writes what else it answers through its pointers to single
+ * numbers (refused: 0). Nothing is asked of the values: whatever is wrong is refused by number. A refused call changes no byte of
+ * the table and of the lent buffers (but board_open, which refuses with the empty table whose first number is 1).
  *
- *  1  a lent buffer has not its exact size              9  no free slot
- *  2  no table, or a table that is not sound           10  would be soft, and all 16 rooms are taken
- *  3  block above 63                                   11  a patch of the block is in flight
- *  4  data length 0 or above 64                        12  no patch of the block waits
- *  5  offset + length above 256                        13  some wait, and none may go
- *  6  more than 8 named numbers                        14  no patch of the block is in flight
- *  7  a named or asked number was never issued         15  first number 0 or above 1,000,000,000
- *  8  no number is left
+ * YOUR PART
+ * - Before board_open, fill the working image from the store: what it held is what every later change lies over.
+ * - Table, working image AND undo area belong together. To go on after a sleep keep all three; with one of them lost, open anew
+ *   from the store. Nobody else writes to them.
+ * - After a power cut, fill the image from the store and open again. Any first number will do; one that is not below the last
+ *   `next` keeps old numbers from meaning new changes (a number below the first is refused, 7).
+ * - One call at a time, and no reset inside one: a call that is broken off leaves the table, the image and the undo area half made.
+ * - Pass the bytes handed out to the store as they are, a block whole or not at all. Every write that was granted is to be passed
+ *   on, and its completion told with board_complete, but not before the bytes are there: what was told is taken to be on the store.
+ * - Stack: the calls took up to 15,864 bytes when it was read (create; docs/FIGURES.md has each). Keep more than that free.
+ * - Pointers, as for any callee that takes a pointer with a length: not null, also where the length is 0 (any valid address will do),
+ *   valid for the length, and aligned where they are to 32-bit or 64-bit numbers; tables and buffers of bytes may stand anywhere.
+ *   No two of a call's pointers reach the same byte, unless both are to const. Two traps: `bytes` that lie in the image itself
+ *   (copy them out first), and `named` and `number` that are the same word (let the answer go into another).
+ *   No call keeps a pointer or allocates, and none calls anything but C's memcpy.
  *
- * The table is BOARD_TABLE bytes that you keep, also over sleep. Every number in it is little-endian:
+ * THE TABLE is BOARD_TABLE bytes that you keep. Every number in it is little-endian:
  *   0 first (4 bytes), 4 next (4), then 64 slots of 32 bytes, slot i at 8 + 32 * i:
  *   0 state (4): 0 free, 1 waiting hard, 2 waiting soft, 3 in flight hard, 4 in flight soft
  *   4 room (4), read for state 2 only and written 0 for the others
  *   8 number (4), 12 block (4), 16 offset (4), 20 length (4), 24 befores (8), bit i for slot i
- * Bytes of another length, or with a state above 4, are no table. A granted call writes the whole table; a refused one
- * changes no byte of it (but board_open, which refuses with the empty table whose first number is 1). */
+ * Bytes of another length, or with a state above 4, are no table. A granted open, create, write or complete writes the whole
+ * table; ask and count write none of it. */
 #ifndef BOARD_H
 #define BOARD_H
 
@@ -37,6 +44,50 @@ extern "C" {
 #define BOARD_IMAGE 16384u /* the working image: 64 blocks of 256 bytes */
 #define BOARD_UNDO 1024u   /* the undo area: 16 rooms of 64 bytes */
 #define BOARD_BLOCK 256u   /* the block handed out */
+
+/* The refusal numbers. Each call answers the first of its own that holds, in rising order. */
+enum board_refusal {
+    BOARD_GRANTED = 0,
+    BOARD_BUFFER_SIZE = 1,
+    BOARD_NOT_SOUND = 2,
+    BOARD_NO_BLOCK = 3,
+    BOARD_DATA_LENGTH = 4,
+    BOARD_PAST_THE_END = 5,
+    BOARD_MANY_NAMES = 6,
+    BOARD_NEVER_ISSUED = 7,
+    BOARD_NO_NUMBER = 8,
+    BOARD_NO_SLOT = 9,
+    BOARD_NO_ROOM = 10,
+    BOARD_IN_FLIGHT = 11,
+    BOARD_NONE_WAITS = 12,
+    BOARD_NONE_MAY_GO = 13,
+    BOARD_NONE_IN_FLIGHT = 14,
+    BOARD_FIRST_NUMBER = 15
+};
+
+/* A refusal number in words. */
+static inline const char *board_words(uint32_t refusal)
+{
+    static const char *const words[] = {
+        "granted",
+        "a lent buffer has not its exact size",
+        "no table, or a table that is not sound",
+        "block above 63",
+        "data length 0 or above 64",
+        "offset + length above 256",
+        "more than 8 named numbers",
+        "a named or asked number was never issued",
+        "no number is left",
+        "no free slot",
+        "would be soft, and all 16 rooms are taken",
+        "a patch of the block is in flight",
+        "no patch of the block waits",
+        "some wait, and none may go",
+        "no patch of the block is in flight",
+        "first number 0 or above 1,000,000,000",
+    };
+    return refusal < sizeof words / sizeof words[0] ? words[refusal] : "no refusal has this number";
+}
 
 /* An empty table whose first and next number are `first`. Tests 2 (the length only), then 15. */
 uint32_t board_open(uint8_t *table, size_t table_len, uint32_t first);

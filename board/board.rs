@@ -1,14 +1,37 @@
 //! The write-before cache for Rust: a thin wrapper over libboard.a, proved in crates/board. Copy it into a crate that
-//! links the archive. The sizes are types, so refusal 1 and "no table for its length" cannot come; every other refusal
-//! of board.h is answered as `Err` with its number, and nothing else is tested here.
+//! links the archive; "your part" in board.h holds here too. The sizes are types, so refusal 1 and "no table for its length"
+//! cannot come; every other refusal is answered as `Err` with its number, and nothing else is tested here.
 
 pub const TABLE: usize = 2056;
 pub const IMAGE: usize = 16384;
 pub const UNDO: usize = 1024;
 pub const BLOCK: usize = 256;
 
-/// Kept by the caller, also over sleep; board.h has the layout.
+/// Kept by the caller, over sleep together with the image and the undo area; board.h has the layout.
 pub type Table = [u8; TABLE];
+
+/// A refusal number in words, as `board_words` of board.h has them.
+pub fn words(refusal: u32) -> &'static str {
+    match refusal {
+        0 => "granted",
+        1 => "a lent buffer has not its exact size",
+        2 => "no table, or a table that is not sound",
+        3 => "block above 63",
+        4 => "data length 0 or above 64",
+        5 => "offset + length above 256",
+        6 => "more than 8 named numbers",
+        7 => "a named or asked number was never issued",
+        8 => "no number is left",
+        9 => "no free slot",
+        10 => "would be soft, and all 16 rooms are taken",
+        11 => "a patch of the block is in flight",
+        12 => "no patch of the block waits",
+        13 => "some wait, and none may go",
+        14 => "no patch of the block is in flight",
+        15 => "first number 0 or above 1,000,000,000",
+        _ => "no refusal has this number",
+    }
+}
 
 #[derive(Clone, Copy, Debug, PartialEq, Eq)]
 pub enum Hold {

@@ -24,8 +24,7 @@ static uint32_t change(uint32_t at, uint32_t offset, const char *text, const uin
     uint32_t number, hold;
     uint32_t refusal = board_create(table, sizeof table, image, sizeof image, undo, sizeof undo, at, offset,
                                     (const uint8_t *)text, strlen(text), after, after_len, &number, &hold);
-    printf("create on block %" PRIu32 ": refusal %" PRIu32 ", number %" PRIu32 ", hold %" PRIu32 "\n", at, refusal,
-           number, hold);
+    printf("create on block %" PRIu32 ": %s, number %" PRIu32 ", hold %" PRIu32 "\n", at, board_words(refusal), number, hold);
     return number;
 }
 
@@ -35,16 +34,16 @@ static void flush(uint32_t from)
     uint64_t set;
     uint32_t refusal =
         board_write(table, sizeof table, image, sizeof image, undo, sizeof undo, block, sizeof block, from, &set);
-    if (refusal == 0)
+    if (refusal == BOARD_GRANTED)
         send(from, block, set);
     else
-        printf("write of block %" PRIu32 ": refusal %" PRIu32 "\n", from, refusal);
+        printf("write of block %" PRIu32 ": %s\n", from, board_words(refusal));
 }
 
 int main(void)
 {
     uint32_t state, waiting;
-    if (board_open(table, sizeof table, 1) != 0)
+    if (board_open(table, sizeof table, 1) != BOARD_GRANTED)
         return 1;
     uint32_t none = 0;
     uint32_t name = change(1, 0, "KRTL", &none, 0);

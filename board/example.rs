@@ -20,7 +20,7 @@ impl Radio {
             Ok((number, Hold::Soft { room })) => (0, number, 2 + room),
             Err(refusal) => (refusal, 0, 0),
         };
-        println!("create on block {at}: refusal {refusal}, number {number}, hold {hold}");
+        println!("create on block {at}: {}, number {number}, hold {hold}", board::words(refusal));
         number
     }
 
@@ -32,7 +32,7 @@ impl Radio {
                 let [a, b, c, d, ..] = bytes;
                 println!("block {from} goes, slots {set:x}: {a:02x} {b:02x} {c:02x} {d:02x} ..");
             }
-            Err(refusal) => println!("write of block {from}: refusal {refusal}"),
+            Err(refusal) => println!("write of block {from}: {}", board::words(refusal)),
         }
     }
 }
@@ -56,7 +56,7 @@ fn session(radio: &mut Radio) -> Result<(), u32> {
 fn main() {
     let mut radio = Radio { table: [0; TABLE], image: [0; IMAGE], undo: [0; UNDO] };
     if let Err(refusal) = session(&mut radio) {
-        println!("refused: {refusal}");
+        println!("refused: {}", board::words(refusal));
         std::process::exit(1);
     }
 }
