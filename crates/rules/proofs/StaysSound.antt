@@ -8,7 +8,6 @@ use native.Mathlib.Omega.{arith}
 use native.Mathlib.Decide.{ℕ-discrete}
 use borrow.Author.Tests.{eq-eqb, ne-eqb, not-true}
 use lib.Dec.{eqb}
-use lib.ListN.{length}
 use Rattle.masks.specs.Sets.{has, setOf, Sub}
 use Rattle.masks.proofs.Laws.{has-set, has-slot, set-lt}
 use Rattle.masks.proofs.Decided.{clash, true-or-false, and-true, or-true}
@@ -25,6 +24,7 @@ use Rattle.rules.specs.Create.{Change, Lowest, FreeSlot, FreeRoom, HoldO
 use Rattle.rules.specs.Write.{sentState, sentSlots, sent}
 use Rattle.rules.specs.Complete.{remaining, completedSlots, completed}
 use Rattle.rules.proofs.SlotsBy.{slot-by}
+use Rattle.rules.proofs.Granted.{CreatePassed}
 
 -- the slot n is the slot s, but for its state, where it has no new room, and for befores that it has lost
 pub record Like (n s : Slot) : Type 0 where
@@ -260,14 +260,6 @@ turned-like : (h : Hold) (b : ℕ) (s : Slot) → Like (turned h b s) s
 turned-like hold.Hard b s = state-like (eqb (s .block) b) (turnedState (s .state)) s (turned-used (s .state)) (turned-roomless (s .state))
 turned-like (hold.Soft r) b s = like-self s
 
--- what create has found when no refusal holds
-pub record Valid (t : Table) (c : Change) : Type 0 where
-  pub block : c .block < blocks
-  pub len-least : 1 ≤ length (c .bytes)
-  pub len-most : length (c .bytes) ≤ mostBytes
-  pub ends : c .offset + length (c .bytes) ≤ blockBytes
-  pub last : t .next ≤ lastNumber
-
 -- a slot among the befores of a new patch is in use
 pub befores-are-used : (ss : List Slot) (c : Change) (k : ℕ) → has (befores ss c) k ≡ true → used ss k ≡ true
 unfolding befores
@@ -281,14 +273,20 @@ new-room : (ss : List Slot) (b : ℕ) (h : Hold) → HoldOf ss b h → (r : ℕ)
 new-room ss b h (HoldOf.hard w) r e = absurd (let z : _≡_ {A = ℕ} 0 1 = cc in omega arith)
 new-room ss b h (HoldOf.soft {r = q} w low) r e = let z : q ≡ r = cc in subst (λ (x : ℕ). (x < rooms) × FreeRoom ss x) z (low .within, low .holds)
 
-pub accepted-sound : (t : Table) (c : Change) (j : ℕ) (h : Hold) → Sound t → Valid t c → Lowest slots (FreeSlot (t .slots)) j → HoldOf (t .slots) (c .block) h → Sound (accepted t c j h)
+pub accepted-sound : (t : Table) (image undo : List ℕ) (c : Change) (j : ℕ) (h : Hold) → CreatePassed t image undo c → Lowest slots (FreeSlot (t .slots)) j
+    → HoldOf (t .slots) (c .block) h → Sound (accepted t c j h)
 unfolding accepted acceptedSlots patch
-accepted-sound t c j h s v low held =
-    adds-sound (withSlots (slotsBy g) t) (keeps-sound t s (slotsBy g) (λ i l. inr (like i l)) (λ i k l m u b. like k m .used ∙ s .befores-used i k l m (sym (like i l .used) ∙ u) (like i l .befores k b)))
+accepted-sound t image undo c j h v low held =
+    adds-sound (withSlots (slotsBy g) t)
+    (keeps-sound t s (slotsBy g) (λ i l. inr (like i l))
+    (λ i k l m u b. like k m .used ∙ s .befores-used i k l m (sym (like i l .used) ∙ u) (like i l .befores k b)))
     (slotsBy f) j (patch t c h) (low .within) (like j (low .within) .used ∙ low .holds) fit
     (slot-by f j (low .within) ∙ ap (λ (x : Bool). cond x (patch t c h) (g j)) (eq-eqb j j refl))
     (λ i l d. slot-by f i l ∙ ap (λ (x : Bool). cond x (patch t c h) (g i)) (ne-eqb i j d) ∙ sym (slot-by g i l))
   where
+    s : Sound t
+    s = v .sound
+
     g : ℕ → Slot
     g i = turned h (c .block) (slotAt (t .slots) i)
 
@@ -303,7 +301,7 @@ accepted-sound t c j h s v low held =
       used = refl;
       number = refl;
       last = v .last;
-      block = v .block;
+      block = v .is-block;
       len-least = v .len-least;
       len-most = v .len-most;
       ends = v .ends;
