@@ -19,13 +19,14 @@ use Rattle.rules.specs.Ask.{Asked}
 use Rattle.rules.specs.Refusals.{First, Flies, writeCases}
 use Rattle.rules.specs.Calls.{Writing, Writes, writeNumber, Asks}
 use Rattle.rules.proofs.Granted.{write-passed}
-use Rattle.cut.specs.World.{State, waiting, inFlight, committed}
+use Rattle.cut.specs.World.{committed}
 use Rattle.demands.specs.History.{History, Accepted, Sent}
 use Rattle.demands.specs.Demand3.{sentIn, NotesTrue}
+use Rattle.demands.proofs.Log.{number-taken}
 use Rattle.demands.proofs.Notes.{mem-left}
 use Rattle.demands.proofs.Lookup.{slotOf, carries-used, carries-number, slot-carries, no-slot}
-use Rattle.demands.proofs.Radio.{stateWord, stateAt, isDone, isOut, Good}
-use Rattle.demands.proofs.Numbers.{numbered}
+use Rattle.demands.proofs.Words.{stateWord, stateAt, wordOf, isDone, isOut}
+use Rattle.demands.proofs.Radio.{Good}
 
 -- a write that is noted sent what it sent
 noted-sent : (n : ℕ) (ws : List Sent) (w : Sent) → List·Memᴰ w ws → isIn n (w .numbers) ≡ true → sentIn n ws ≡ true
@@ -55,19 +56,19 @@ module _ (h : History) (g : Good h) where
       let out = sym (g .out (a .0) (a .1)) ∙ ap (λ (x : ℕ). sentIn x (h .inFlight)) (a .2) ∙ noted-sent (n .0) (h .inFlight) w m (n .1) in
       go (a .0) (a .1) (a .3 ∙ e) out (slotOf ss (a .0 .number)) refl (v .none-flies)
     where
-      go : (a : Accepted) → List·Memᴰ a (h .accepted) → a .change .block ≡ b → isOut (stateAt ss (slotOf ss (a .number))) ≡ true → (q : Option ℕ) → slotOf ss (a .number) ≡ q
+      go : (a : Accepted) → List·Memᴰ a (h .accepted) → a .change .block ≡ b → isOut (wordOf ss (a .number)) ≡ true → (q : Option ℕ) → slotOf ss (a .number) ≡ q
           → (Flies ss b → ⊥) → ⊥
       go a k f u none q n = clash u (ap (λ (x : Option ℕ). isOut (stateAt ss x)) q)
       go a k f u (some j) q n =
           let c = slot-carries ss (a .number) j q in
-          n (j, c .0, true-and (word-out (slotAt ss j .state) (sym (ap (λ (x : Option ℕ). isOut (stateAt ss x)) q) ∙ u)) (eq-eqb (slotAt ss j .block) b (g .link a k j (c .0) (c .1) .block ∙ f)))
+          n (j, c .0, true-and (word-out (slotAt ss j .state) (sym (ap (λ (x : Option ℕ). isOut (stateAt ss x)) q) ∙ u)) (eq-eqb (slotAt ss j .block) b (g .linked .block a k j c ∙ f)))
 
   committed-landed : (n : ℕ) → Asks (h .table) n ask.Committed → sentIn n (h .landed) ≡ true
   committed-landed n p =
       let c = is-committed (h .table) n ask.Committed (p .grant refl) refl in
       let low = c .0 .0 in
       let high = c .0 .1 in
-      let a = numbered (h .table .first) (h .accepted) n (g .numbers) low (omega (arith, g .counted)) in
+      let a = number-taken n (g .numbers) low high in
       let gone = no-slot ss (a .0 .number) (λ i l f. c .1 i (l, carries-used ss (a .0 .number) i f, carries-number ss (a .0 .number) i f ∙ a .2)) in
       ap (λ (x : ℕ). sentIn x (h .landed)) (sym (a .2)) ∙ g .done (a .0) (a .1) ∙ ap (λ (x : Option ℕ). isDone (stateAt ss x)) gone
 

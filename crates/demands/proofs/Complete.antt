@@ -1,5 +1,5 @@
 -- A granted complete is a landing of `cut`, and leaves a good history.
-use Prim.Native.Nat.{ℕ, _+_, _-_, _<_}
+use Prim.Native.Nat.{ℕ, _-_, _<_}
 use native.Mathlib.Omega.{arith}
 use mathlib.Core.Path.{_≡_, refl, sym, _∙_, ap, ap₂, subst}
 use mathlib.Core.Bool.{Bool, true, false, cond, _&&_, _||_, not}
@@ -28,8 +28,10 @@ use Rattle.demands.specs.Demand3.{written, sentIn}
 use Rattle.demands.proofs.Views.{view}
 use Rattle.demands.proofs.Notes.{AllWhole, some-written, written-alike, sent-in-both, sent-in-those, of-those, mem-left, mem-right, mem-either, times-both, times-parted}
 use Rattle.demands.proofs.Lookup.{carries, slotOf, carries-used, carries-number, carries-of, at-slot, slot-carries, no-slot, nowhere}
-use Rattle.demands.proofs.Radio.{stateWord, isSoft, stateAt, softAt, roomAt, Tied, plain, roomByte, oldByte, world, Same, isDone, isOut, Good}
-use Rattle.demands.proofs.Numbers.{on-log, sent-to}
+use Rattle.demands.proofs.Log.{on-log}
+use Rattle.demands.proofs.Words.{stateWord, isSoft, stateAt, softAt, roomAt, wordOf, softOf, roomFor, Tied, isDone, isOut}
+use Rattle.demands.proofs.Linked.{Kin, linked-kept}
+use Rattle.demands.proofs.Radio.{roomByte, oldByte, world, Good, sent-to}
 
 flying-settles : (u : rules.State) → isInFlight u ≡ true → committed ≡ settled (stateWord u)
 unfolding settled
@@ -109,13 +111,13 @@ module _ (h : History) (g : Good h) (b : ℕ) where
 
   -- the patch of an accepted change flies on the change's own block
   block-of : (a : Accepted) → List·Memᴰ a (h .accepted) → (j : ℕ) → slotOf ss (a .number) ≡ some j → slotAt ss j .block ≡ a .change .block
-  block-of a m j e = let c = slot-carries ss (a .number) j e in g .link a m j (c .0) (c .1) .block
+  block-of a m j e = let c = slot-carries ss (a .number) j e in g .linked .block a m j c
 
-  its-state : (a : Accepted) → List·Memᴰ a (h .accepted) → a .change .block ≡ b → stateAt ss′ (slotOf ss′ (a .number)) ≡ settled (stateAt ss (slotOf ss (a .number)))
+  its-state : (a : Accepted) → List·Memᴰ a (h .accepted) → a .change .block ≡ b → wordOf ss′ (a .number) ≡ settled (wordOf ss (a .number))
   unfolding settled
   its-state a m s = pick (fate (a .number))
     where
-      pick : Fate (a .number) → stateAt ss′ (slotOf ss′ (a .number)) ≡ settled (stateAt ss (slotOf ss (a .number)))
+      pick : Fate (a .number) → wordOf ss′ (a .number) ≡ settled (wordOf ss (a .number))
       pick (gone e f) = ap (stateAt ss′) f ∙ sym (ap (λ (p : Option ℕ). settled (stateAt ss p)) e)
       pick (lost j e l f) =
           ap (stateAt ss′) f ∙ flying-settles (slotAt ss j .state) (and-true (isInFlight (slotAt ss j .state)) _ l .0) ∙ sym (ap (λ (p : Option ℕ). settled (stateAt ss p)) e)
@@ -127,29 +129,29 @@ module _ (h : History) (g : Good h) (b : ℕ) where
           still false q = refl
           still true q = absurd (clash (true-and q (eq-eqb (slotAt ss j .block) b (block-of a m j e ∙ s))) l)
 
-  other-state : (a : Accepted) → List·Memᴰ a (h .accepted) → a .change .block ≢ b → stateAt ss′ (slotOf ss′ (a .number)) ≡ stateAt ss (slotOf ss (a .number))
+  other-state : (a : Accepted) → List·Memᴰ a (h .accepted) → a .change .block ≢ b → wordOf ss′ (a .number) ≡ wordOf ss (a .number)
   other-state a m n = pick (fate (a .number))
     where
-      pick : Fate (a .number) → stateAt ss′ (slotOf ss′ (a .number)) ≡ stateAt ss (slotOf ss (a .number))
+      pick : Fate (a .number) → wordOf ss′ (a .number) ≡ wordOf ss (a .number)
       pick (gone e f) = ap (stateAt ss′) f ∙ sym (ap (stateAt ss) e)
       pick (lost j e l f) = absurd (n (sym (block-of a m j e) ∙ eqb-true (slotAt ss j .block) b (and-true (isInFlight (slotAt ss j .state)) _ l .1)))
       pick (kept j e l f z) = ap (stateAt ss′) f ∙ ap (λ (x : Slot). stateWord (x .state)) z ∙ sym (ap (stateAt ss) e)
 
-  old-undo : (x : Change) → softAt ss′ (slotOf ss′ (x .number)) ≡ true → (softAt ss (slotOf ss (x .number)) ≡ true) × ((i : ℕ) → oldByte ss′ (h .undo) x i ≡ oldByte ss (h .undo) x i)
+  old-undo : (x : Change) → softOf ss′ (x .number) ≡ true → (softOf ss (x .number) ≡ true) × ((i : ℕ) → oldByte ss′ (h .undo) x i ≡ oldByte ss (h .undo) x i)
   old-undo x s = pick (fate (x .number))
     where
-      pick : Fate (x .number) → (softAt ss (slotOf ss (x .number)) ≡ true) × ((i : ℕ) → oldByte ss′ (h .undo) x i ≡ oldByte ss (h .undo) x i)
+      pick : Fate (x .number) → (softOf ss (x .number) ≡ true) × ((i : ℕ) → oldByte ss′ (h .undo) x i ≡ oldByte ss (h .undo) x i)
       pick (gone e f) = absurd (clash s (ap (softAt ss′) f))
       pick (lost j e l f) = absurd (clash s (ap (softAt ss′) f))
       pick (kept j e l f z) =
-          let soft : softAt ss (slotOf ss (x .number)) ≡ softAt ss′ (slotOf ss′ (x .number)) = ap (softAt ss) e ∙ sym (ap (λ (y : Slot). isSoft (y .state)) z) ∙ sym (ap (softAt ss′) f) in
-          let room : roomAt ss′ (slotOf ss′ (x .number)) ≡ roomAt ss (slotOf ss (x .number)) = ap (roomAt ss′) f ∙ ap (λ (y : Slot). roomOf (y .state)) z ∙ sym (ap (roomAt ss) e) in
+          let soft : softOf ss (x .number) ≡ softOf ss′ (x .number) = ap (softAt ss) e ∙ sym (ap (λ (y : Slot). isSoft (y .state)) z) ∙ sym (ap (softAt ss′) f) in
+          let room : roomFor ss′ (x .number) ≡ roomFor ss (x .number) = ap (roomAt ss′) f ∙ ap (λ (y : Slot). roomOf (y .state)) z ∙ sym (ap (roomAt ss) e) in
           (soft ∙ s, λ i. ap (λ (q : ℕ). roomByte (h .undo) q (i - x .offset)) room)
 
-  old-ties : (m n : ℕ) → stateAt ss′ (slotOf ss′ m) ≢ committed → Tied ss m n → (stateAt ss′ (slotOf ss′ n) ≡ committed) ⊎ Tied ss′ m n
+  old-ties : (m n : ℕ) → wordOf ss′ m ≢ committed → Tied ss m n → (wordOf ss′ n ≡ committed) ⊎ Tied ss′ m n
   old-ties m n w d = pick (fate m) (fate n)
     where
-      pick : Fate m → Fate n → (stateAt ss′ (slotOf ss′ n) ≡ committed) ⊎ Tied ss′ m n
+      pick : Fate m → Fate n → (wordOf ss′ n ≡ committed) ⊎ Tied ss′ m n
       pick fm (gone e f) = inl (ap (stateAt ss′) f)
       pick fm (lost j e l f) = inl (ap (stateAt ss′) f)
       pick (gone e f) (kept j a l q z) = absurd (w (ap (stateAt ss′) f))
@@ -200,8 +202,8 @@ module _ (h : History) (g : Good h) (b : ℕ) where
     sent = sent-now;
     working = λ d i. refl;
     log = refl;
-    itsState = on-log (h .accepted) (λ x. x .block ≡ b → stateAt ss′ (slotOf ss′ (x .number)) ≡ settled (stateAt ss (slotOf ss (x .number)))) its-state;
-    otherState = on-log (h .accepted) (λ x. x .block ≢ b → stateAt ss′ (slotOf ss′ (x .number)) ≡ stateAt ss (slotOf ss (x .number))) other-state;
+    itsState = on-log (h .accepted) (λ x. x .block ≡ b → wordOf ss′ (x .number) ≡ settled (wordOf ss (x .number))) its-state;
+    otherState = on-log (h .accepted) (λ x. x .block ≢ b → wordOf ss′ (x .number) ≡ wordOf ss (x .number)) other-state;
     oldUndo = λ x m s. old-undo x s;
     oldTies = λ y x e m w d. old-ties (y .number) (x .number) w d;
     asks = λ y x e n. n;
@@ -228,13 +230,13 @@ module _ (h : History) (g : Good h) (b : ℕ) where
   out-after committed true s′ q = sym (ap isOut q)
   out-after committed false s′ q = sym (ap isOut q)
 
-  state-after : (a : Accepted) → List·Memᴰ a (h .accepted) → stateAt ss′ (slotOf ss′ (a .number)) ≡ cond (eqb (a .change .block) b) (settled (stateAt ss (slotOf ss (a .number)))) (stateAt ss (slotOf ss (a .number)))
+  state-after : (a : Accepted) → List·Memᴰ a (h .accepted) → wordOf ss′ (a .number) ≡ cond (eqb (a .change .block) b) (settled (wordOf ss (a .number))) (wordOf ss (a .number))
   state-after a m = by (same-or-other (a .change .block) b)
     where
       by : (a .change .block ≡ b) ⊎ (a .change .block ≢ b)
-          → stateAt ss′ (slotOf ss′ (a .number)) ≡ cond (eqb (a .change .block) b) (settled (stateAt ss (slotOf ss (a .number)))) (stateAt ss (slotOf ss (a .number)))
-      by (inl e) = its-state a m e ∙ sym (ap (λ (v : Bool). cond v (settled (stateAt ss (slotOf ss (a .number)))) (stateAt ss (slotOf ss (a .number)))) (eq-eqb (a .change .block) b e))
-      by (inr n) = other-state a m n ∙ sym (ap (λ (v : Bool). cond v (settled (stateAt ss (slotOf ss (a .number)))) (stateAt ss (slotOf ss (a .number)))) (ne-eqb (a .change .block) b n))
+          → wordOf ss′ (a .number) ≡ cond (eqb (a .change .block) b) (settled (wordOf ss (a .number))) (wordOf ss (a .number))
+      by (inl e) = its-state a m e ∙ sym (ap (λ (v : Bool). cond v (settled (wordOf ss (a .number))) (wordOf ss (a .number))) (eq-eqb (a .change .block) b e))
+      by (inr n) = other-state a m n ∙ sym (ap (λ (v : Bool). cond v (settled (wordOf ss (a .number))) (wordOf ss (a .number))) (ne-eqb (a .change .block) b n))
 
   -- every write that is noted was noted before
   noted : (w : Sent) → List·Memᴰ w (elsewhere ++ (to-it ++ h .landed)) → List·Memᴰ w (h .inFlight ++ h .landed)
@@ -244,19 +246,18 @@ module _ (h : History) (g : Good h) (b : ℕ) where
       (λ k. ⊎-elim (λ q. mem-left (h .landed) w (of-those (λ w. eqb (w .block) b) (h .inFlight) w q .0)) (λ q. mem-right (h .inFlight) w q) (mem-either to-it (h .landed) w k))
       (mem-either elsewhere (to-it ++ h .landed) w m)
 
-  link′ : (a : Accepted) → List·Memᴰ a (h .accepted) → (i : ℕ) → i < slots → carries ss′ (a .number) i ≡ true → Same (slotAt ss′ i) (plain a)
-  link′ a m i l f =
-      let s = stayed i l (carries-used ss′ (a .number) i f) in
-      let k = g .link a m i l (carries-was (a .number) i l f .0) in
-      subst (λ (x : Slot). Same x (plain a)) (sym (s .2)) (record { block = k .block; offset = k .offset; len = k .len })
+  -- a slot in use is as it was, but for its befores
+  kin : (i : ℕ) → i < slots → used ss′ i ≡ true → Kin (slotAt ss′ i) (slotAt ss i)
+  kin i l u =
+      subst (λ (x : Slot). Kin x (slotAt ss i)) (sym (stayed i l u .2))
+      (record { used = refl; soft = λ e. refl; number = refl; block = refl; offset = refl; len = refl })
 
   pub landed-good : Good landed
   landed-good = record {
     sound = sound′;
-    counted = g .counted;
     numbers = g .numbers;
-    link = link′;
     older = g .older;
+    linked = linked-kept ss ss′ (h .accepted) kin (g .linked);
     within = g .within;
     image-whole = g .image-whole;
     opening-whole = g .opening-whole;
@@ -264,11 +265,11 @@ module _ (h : History) (g : Good h) (b : ℕ) where
         sent-in-both (a .number) to-it (h .landed)
         ∙ ap (λ (x : Bool). x || sentIn (a .number) (h .landed)) (sent-in-those (λ d. eqb d b) (a .number) (a .change .block) (h .inFlight) (sent-to h g a m))
         ∙ ap₂ (λ (x y : Bool). (eqb (a .change .block) b && x) || y) (g .out a m) (g .done a m)
-        ∙ done-after (stateAt ss (slotOf ss (a .number))) (eqb (a .change .block) b) (stateAt ss′ (slotOf ss′ (a .number))) (state-after a m);
+        ∙ done-after (wordOf ss (a .number)) (eqb (a .change .block) b) (wordOf ss′ (a .number)) (state-after a m);
     out = λ a m.
         sent-in-those (λ d. not (eqb d b)) (a .number) (a .change .block) (h .inFlight) (sent-to h g a m)
         ∙ ap (λ (x : Bool). not (eqb (a .change .block) b) && x) (g .out a m)
-        ∙ out-after (stateAt ss (slotOf ss (a .number))) (eqb (a .change .block) b) (stateAt ss′ (slotOf ss′ (a .number))) (state-after a m);
+        ∙ out-after (wordOf ss (a .number)) (eqb (a .change .block) b) (wordOf ss′ (a .number)) (state-after a m);
     whole = λ w m. g .whole w (noted w m);
     sent = λ w m n f. g .sent w (noted w m) n f;
     some = λ w m. g .some w (noted w m);

@@ -1,9 +1,11 @@
 -- The theorems are in Demand3, QuestionFour and QuestionSeven; the rest is how they are shown.
+pub mod Log
 pub mod Views
 pub mod Notes
 pub mod Lookup
+pub mod Words
+pub mod Linked
 pub mod Radio
-pub mod Numbers
 pub mod Create
 pub mod Complete
 pub mod Write

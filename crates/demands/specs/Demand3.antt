@@ -38,10 +38,17 @@ unfoldable pub carriedOut : (Accepted → Bool) → List Accepted → List ℕ �
 carriedOut test [] store = store
 carriedOut test (a ∷ older) store = let before = carriedOut test older store in cond (test a) (changed before (a .change)) before
 
--- y asked to have x before it: both were accepted, and y's caller named x's number
+-- in a list of changes, newest first, x was accepted earlier than y: by their places in it, as several changes may have one number. A change that was accepted
+-- twice may be earlier than itself
+pub data Earlier : List Accepted → Accepted → Accepted → Type 0 where
+  -- y is the newest, and x is among the older ones
+  here : {y x : Accepted} {older : List Accepted} → List·Memᴰ x older → Earlier (y ∷ older) y x
+  -- or both are among the older ones, in this order
+  there : {a y x : Accepted} {older : List Accepted} → Earlier older y x → Earlier (a ∷ older) y x
+
+-- y asked to have x before it: x was accepted earlier, and y's caller named x's number
 pub record AskedFor (h : History) (y x : Accepted) : Type 0 where
-  pub accepted : List·Memᴰ y (h .accepted)
-  pub before : List·Memᴰ x (h .accepted)
+  pub earlier : Earlier (h .accepted) y x
   pub named : isIn (x .number) (y .change .named) ≡ true
 
 -- straight or through others
