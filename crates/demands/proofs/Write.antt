@@ -21,11 +21,11 @@ use Rattle.rules.specs.declared.State as rules
 use Rattle.rules.specs.declared.State.the-variants as state
 use Rattle.rules.specs.declared.Slot.{Slot}
 use Rattle.rules.specs.Sizes.{blocks, blockBytes, blockStart, undoBytes, slots, rooms, roomStart}
-use Rattle.rules.specs.Slots.{isUsed, isWaiting, isInFlight, isHard, roomOf, withState}
+use Rattle.rules.specs.Slots.{isUsed, isWaiting, isInFlight, isHard, roomOf}
 use Rattle.rules.specs.Table.{slotAt, used, waitsOn, fliesOn, Sound}
 use Rattle.rules.specs.Create.{isIn}
-use Rattle.rules.specs.Write.{MayGo, leftBehind, takenBack, backNumber, backDown, handedOut, sentState, sentSlots, sent}
-use Rattle.rules.proofs.SlotsBy.{slot-by}
+use Rattle.rules.specs.Write.{MayGo, leftBehind, takenBack, backNumber, backDown, handedOut, sentState, sentSlot, sentSlots, sent}
+use Rattle.rules.proofs.After.{sent-at}
 use Rattle.rules.proofs.StaysSound.{sent-sound}
 use Rattle.rules.proofs.TakenBack.{number-nowhere, number-there}
 use Rattle.rules.proofs.Pins.{length-back-number, length-handed-out}
@@ -148,15 +148,11 @@ module _ (h : History) (g : Good h) (b s : ℕ) (is-block : b < blocks) (undo-wh
   unfolding sent
   sound′ = sent-sound (h .table) s (g .sound)
 
-  at : (i : ℕ) → i < slots → slotAt ss′ i ≡ cond (has s i) (withState (sentState (slotAt ss i .state)) (slotAt ss i)) (slotAt ss i)
-  unfolding sentSlots
-  at i l = slot-by (λ i. cond (has s i) (withState (sentState (slotAt ss i .state)) (slotAt ss i)) (slotAt ss i)) i l
-
-  at-goes : (i : ℕ) → i < slots → has s i ≡ true → slotAt ss′ i ≡ withState (sentState (slotAt ss i .state)) (slotAt ss i)
-  at-goes i l e = at i l ∙ ap (λ (v : Bool). cond v (withState (sentState (slotAt ss i .state)) (slotAt ss i)) (slotAt ss i)) e
+  at-goes : (i : ℕ) → i < slots → has s i ≡ true → slotAt ss′ i ≡ sentSlot true (slotAt ss i)
+  at-goes i l e = sent-at ss s i l ∙ ap (λ (goes : Bool). sentSlot goes (slotAt ss i)) e
 
   at-stays : (i : ℕ) → i < slots → has s i ≡ false → slotAt ss′ i ≡ slotAt ss i
-  at-stays i l e = at i l ∙ ap (λ (v : Bool). cond v (withState (sentState (slotAt ss i .state)) (slotAt ss i)) (slotAt ss i)) e
+  at-stays i l e = sent-at ss s i l ∙ ap (λ (goes : Bool). sentSlot goes (slotAt ss i)) e
 
   -- all but the state is as it was
   record Kin (n o : Slot) : Type 0 where
@@ -169,9 +165,9 @@ module _ (h : History) (g : Good h) (b s : ℕ) (is-block : b < blocks) (undo-wh
     befores : n .befores ≡ o .befores
 
   kin : (i : ℕ) → i < slots → Kin (slotAt ss′ i) (slotAt ss i)
-  kin i l = subst (λ (n : Slot). Kin n (slotAt ss i)) (sym (at i l)) (go (has s i))
+  kin i l = subst (λ (n : Slot). Kin n (slotAt ss i)) (sym (sent-at ss s i l)) (go (has s i))
     where
-      go : (v : Bool) → Kin (cond v (withState (sentState (slotAt ss i .state)) (slotAt ss i)) (slotAt ss i)) (slotAt ss i)
+      go : (goes : Bool) → Kin (sentSlot goes (slotAt ss i)) (slotAt ss i)
       go true = record { used = sent-used (slotAt ss i .state); soft = sent-hard (slotAt ss i .state); number = refl; block = refl; offset = refl; len = refl; befores = refl }
       go false = record { used = refl; soft = λ e. refl; number = refl; block = refl; offset = refl; len = refl; befores = refl }
 
