@@ -28,8 +28,7 @@ use Rattle.rules.specs.Refusals.{First, openCases, createCases}
 use Rattle.rules.specs.Calls.{plainNumber, createNumber, writeNumber, Opening, Opens, Creation, Creates, Writing, Writes, Completion, Completes}
 use Rattle.rules.proofs.Cases.{passed}
 use Rattle.rules.proofs.SlotsBy.{slot-by, length-by}
-use Rattle.rules.proofs.StaysSound.{Valid}
-use Rattle.rules.proofs.SoundCalls.{granted-valid}
+use Rattle.rules.proofs.Granted.{CreatePassed, create-passed}
 use Rattle.board.specs.Layout.{numberAt, stateOf, slotIn, slotStart, tableIn, IsTable, inBytes, tagOf, slotBytes, slotsBytes, bytesOf, SlotFits, TableFits}
 use Rattle.board.proofs.Numbers.{number-4, number-8}
 use Rattle.board.proofs.RoundTrip.{read-back}
@@ -154,18 +153,18 @@ hold-room (HoldOf.hard w) = omega arith
 hold-room (HoldOf.soft n r) = omega (arith, r .within)
 
 module _ (t : Table) (f : TableFits t) where
-  patch-fits : (c : Change) (h : Hold) → Valid t c → HoldOf (t .slots) (c .block) h → SlotFits (patch t c h)
+  patch-fits : {image undo : List ℕ} (c : Change) (h : Hold) → CreatePassed t image undo c → HoldOf (t .slots) (c .block) h → SlotFits (patch t c h)
   unfolding patch befores
   patch-fits c h v o = record {
     room = hold-room o;
     number = f .next;
-    block = omega (arith, v .block);
+    block = omega (arith, v .is-block);
     offset = omega (arith, v .ends);
     len = omega (arith, v .len-most);
     befores = set-lt _;
   }
 
-  accepted-fits : (c : Change) (j : ℕ) (h : Hold) → Valid t c → HoldOf (t .slots) (c .block) h → TableFits (accepted t c j h)
+  accepted-fits : {image undo : List ℕ} (c : Change) (j : ℕ) (h : Hold) → CreatePassed t image undo c → HoldOf (t .slots) (c .block) h → TableFits (accepted t c j h)
   unfolding accepted acceptedSlots
   accepted-fits c j h v o =
       let p = patch t c h in
@@ -205,7 +204,7 @@ module _ (xs : List ℕ) (bytes : Bytes xs) where
   pub create-kept : (image undo : List ℕ) (c : Change) (o : Creation) → Creates (tableIn xs) image undo c o → createNumber (o .answer) ≡ 0 → ReadsBack (o .table)
   create-kept image undo c o p z =
       let g = p .grant z in
-      let v = granted-valid (tableIn xs) image undo c (subst (First (createCases (tableIn xs) image undo c)) z (p .first)) in
+      let v = create-passed (tableIn xs) image undo c (subst (First (createCases (tableIn xs) image undo c)) z (p .first)) in
       subst (λ (x : Creation). ReadsBack (x .table)) (sym (g .whole)) (read-back (accepted (tableIn xs) c (g .slot) (g .hold)) (accepted-fits (tableIn xs) (table-fits xs bytes) c (g .slot) (g .hold) v (g .hard-or-soft)))
 
   pub write-kept : (image undo handed : List ℕ) (b : ℕ) (o : Writing) → Writes (tableIn xs) image undo handed b o → writeNumber (o .answer) ≡ 0 → ReadsBack (o .table)

@@ -1,5 +1,5 @@
 -- The notes of a good history are true.
-use Prim.Native.Nat.{ℕ, _<_}
+use Prim.Native.Nat.{ℕ}
 use native.Mathlib.Omega.{arith}
 use mathlib.Core.Path.{_≡_, refl, sym, _∙_, ap, subst}
 use mathlib.Core.Bool.{true}
@@ -12,14 +12,13 @@ use Rattle.rules.specs.declared.AskAnswer.the-variants as ask
 use Rattle.rules.specs.declared.State as rules
 use Rattle.rules.specs.declared.State.the-variants as state
 use Rattle.rules.specs.declared.Slot.{Slot}
-use Rattle.rules.specs.Sizes.{slots}
 use Rattle.rules.specs.Slots.{isInFlight}
-use Rattle.rules.specs.Table.{Table, slotAt, fliesOn, Committed}
+use Rattle.rules.specs.Table.{Table, slotAt, Committed}
 use Rattle.rules.specs.Create.{isIn}
 use Rattle.rules.specs.Ask.{Asked}
-use Rattle.rules.specs.Refusals.{First, writeCases}
+use Rattle.rules.specs.Refusals.{First, Flies, writeCases}
 use Rattle.rules.specs.Calls.{Writing, Writes, writeNumber, Asks}
-use Rattle.rules.proofs.Cases.{passed}
+use Rattle.rules.proofs.Granted.{write-passed}
 use Rattle.cut.specs.World.{State, waiting, inFlight, committed}
 use Rattle.demands.specs.History.{History, Accepted, Sent}
 use Rattle.demands.specs.Demand3.{sentIn, NotesTrue}
@@ -50,17 +49,14 @@ module _ (h : History) (g : Good h) where
 
   alone : (b : ℕ) (lent : List ℕ) (o : Writing) → Writes (h .table) (h .image) (h .undo) lent b o → writeNumber (o .answer) ≡ 0 → (w : Sent) → List·Memᴰ w (h .inFlight) → w .block ≡ b → ⊥
   alone b lent o p z w m e =
-      let c1 = passed (λ e. omega arith) (subst (First (writeCases (h .table) (h .image) (h .undo) lent b)) z (p .first)) in
-      let c2 = passed (λ e. omega arith) (c1 .1) in
-      let c3 = passed (λ e. omega arith) (c2 .1) in
-      let c4 = passed (λ e. omega arith) (c3 .1) in
+      let v = write-passed (h .table) (h .image) (h .undo) lent b (subst (First (writeCases (h .table) (h .image) (h .undo) lent b)) z (p .first)) in
       let n = g .some w (mem-left (h .landed) w m) in
       let a = g .sent w (mem-left (h .landed) w m) (n .0) (n .1) in
       let out = sym (g .out (a .0) (a .1)) ∙ ap (λ (x : ℕ). sentIn x (h .inFlight)) (a .2) ∙ noted-sent (n .0) (h .inFlight) w m (n .1) in
-      go (a .0) (a .1) (a .3 ∙ e) out (slotOf ss (a .0 .number)) refl (c4 .0)
+      go (a .0) (a .1) (a .3 ∙ e) out (slotOf ss (a .0 .number)) refl (v .none-flies)
     where
       go : (a : Accepted) → List·Memᴰ a (h .accepted) → a .change .block ≡ b → isOut (stateAt ss (slotOf ss (a .number))) ≡ true → (q : Option ℕ) → slotOf ss (a .number) ≡ q
-          → ((i : ℕ) × (i < slots) × (fliesOn ss b i ≡ true) → ⊥) → ⊥
+          → (Flies ss b → ⊥) → ⊥
       go a k f u none q n = clash u (ap (λ (x : Option ℕ). isOut (stateAt ss x)) q)
       go a k f u (some j) q n =
           let c = slot-carries ss (a .number) j q in

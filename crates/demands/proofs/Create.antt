@@ -20,13 +20,14 @@ use Rattle.rules.specs.declared.Hold.the-variants as hold
 use Rattle.rules.specs.declared.State as rules
 use Rattle.rules.specs.declared.State.the-variants as state
 use Rattle.rules.specs.declared.Slot.{Slot}
-use Rattle.rules.specs.Sizes.{blockStart, undoBytes, slots, rooms, roomStart}
+use Rattle.rules.specs.Sizes.{blockStart, slots, rooms, roomStart}
 use Rattle.rules.specs.Slots.{isUsed, roomOf, withState}
 use Rattle.rules.specs.Table.{Table, slotAt, used, Sound, HasRoom}
 use Rattle.rules.specs.Create as create
 use Rattle.rules.specs.Create.{Lowest, FreeSlot, FreeRoom, HoldOf, isIn, isNamed, overlaps, befores, patch, turned, turnedState, acceptedSlots, accepted, place, oldBytes, changed, kept}
 use Rattle.rules.proofs.SlotsBy.{slot-by}
-use Rattle.rules.proofs.StaysSound.{Valid, accepted-sound}
+use Rattle.rules.proofs.Granted.{CreatePassed}
+use Rattle.rules.proofs.StaysSound.{accepted-sound}
 use Rattle.rules.proofs.Pins.{byte-shared}
 use Rattle.cut.specs.Changes.{Change, covers}
 use Rattle.cut.specs.World.{State, waiting, inFlight, committed, Must, Accepts, Step}
@@ -74,8 +75,7 @@ soft-room (state.Waiting (hold.Soft r)) e = refl
 soft-room (state.InFlight k) e = absurd (clash e refl)
 
 module _ (h : History) (g : Good h) (c : create.Change) (j : ℕ) (k : Hold) (low : Lowest slots (FreeSlot (h .table .slots)) j)
-    (held : HoldOf (h .table .slots) (c .block) k) (v : Valid (h .table) c) (issued : (n : ℕ) → isIn n (c .named) ≡ true → n < h .table .next)
-    (undo-whole : length (h .undo) ≡ undoBytes) where
+    (held : HoldOf (h .table .slots) (c .block) k) (v : CreatePassed (h .table) (h .image) (h .undo) c) where
   abbrev t : Table
   t = h .table
 
@@ -135,7 +135,7 @@ module _ (h : History) (g : Good h) (c : create.Change) (j : ℕ) (k : Hold) (lo
 
   sound′ : Sound (made .table)
   unfolding accepted
-  sound′ = accepted-sound t c j k (g .sound) v low held
+  sound′ = accepted-sound t (h .image) (h .undo) c j k v low held
 
   -- a number that was issued before keeps its slot
   carries-old : (n i : ℕ) → n < t .next → i < slots → carries ss′ n i ≡ carries ss n i
@@ -190,7 +190,7 @@ module _ (h : History) (g : Good h) (c : create.Change) (j : ℕ) (k : Hold) (lo
       go (hold.Soft r) e = by (decLt q r)
         where
           longest : length (oldBytes (h .image) c) ≡ length (c .bytes)
-          longest = length-part (h .image) (place c) (length (c .bytes)) (omega (arith, g .image-whole, v .block, v .ends))
+          longest = length-part (h .image) (place c) (length (c .bytes)) (omega (arith, g .image-whole, v .is-block, v .ends))
 
           apart : q ≢ r
           apart z = d (e ∙ ap hold.Soft (sym z))
@@ -203,9 +203,9 @@ module _ (h : History) (g : Good h) (c : create.Change) (j : ℕ) (k : Hold) (lo
   in-room : (r n : ℕ) → r < rooms → n < length (c .bytes) → getD (kept (h .undo) (h .image) c (hold.Soft r)) (roomStart r + n) 0 ≡ getD (h .image) (place c + n) 0
   unfolding kept
   in-room r n l m =
-      let longest : length (oldBytes (h .image) c) ≡ length (c .bytes) = length-part (h .image) (place c) (length (c .bytes)) (omega (arith, g .image-whole, v .block, v .ends)) in
+      let longest : length (oldBytes (h .image) c) ≡ length (c .bytes) = length-part (h .image) (place c) (length (c .bytes)) (omega (arith, g .image-whole, v .is-block, v .ends)) in
       let at-n : roomStart r + n - roomStart r ≡ n = omega arith in
-      splice-in (h .undo) (roomStart r) (oldBytes (h .image) c) (roomStart r + n) (omega arith) (omega arith) (omega (arith, v .len-most))
+      splice-in (h .undo) (roomStart r) (oldBytes (h .image) c) (roomStart r + n) (omega arith) (omega arith) (omega (arith, v .len-most, v .undo-whole))
       ∙ ap (λ (x : ℕ). getD (oldBytes (h .image) c) x 0) at-n
       ∙ part-in (h .image) (place c) (length (c .bytes)) n m
 
@@ -237,7 +237,7 @@ module _ (h : History) (g : Good h) (c : create.Change) (j : ℕ) (k : Hold) (lo
           ∙ ap (λ (x : Hold). getD (kept (h .undo) (h .image) c x) (roomStart r + (i - c .offset)) 0) y
           ∙ in-room r (i - c .offset) (free .0) (omega (arith, q .1, q .2))
           ∙ ap (λ (x : ℕ). getD (h .image) x 0) spot
-          ∙ sym (view-in (h .image) b i (omega (arith, q .0, v .block)) (omega (arith, q .2, v .ends)))
+          ∙ sym (view-in (h .image) b i (omega (arith, q .0, v .is-block)) (omega (arith, q .2, v .ends)))
 
   old-undo : (x : Change) → List·Memᴰ x (map plain (h .accepted)) → softAt ss′ (slotOf ss′ (x .number)) ≡ true
       → (softAt ss (slotOf ss (x .number)) ≡ true) × ((i : ℕ) → oldByte ss′ (made .undo) x i ≡ oldByte ss (h .undo) x i)
@@ -322,7 +322,7 @@ module _ (h : History) (g : Good h) (c : create.Change) (j : ℕ) (k : Hold) (lo
     store = λ b i. refl;
     sent = λ b i. refl;
     log = refl;
-    working = λ b i. view-splice (plain new) (h .image) (record { block = v .block; ends = v .ends }) (g .image-whole) b i;
+    working = λ b i. view-splice (plain new) (h .image) (record { block = v .is-block; ends = v .ends }) (g .image-whole) b i;
     newState = new-state;
     oldState = λ x m. old-state (x .number) (below-log x m);
     newUndo = new-undo;
@@ -366,11 +366,11 @@ module _ (h : History) (g : Good h) (c : create.Change) (j : ℕ) (k : Hold) (lo
       record { block = r .block ∙ s .block; offset = r .offset ∙ s .offset; len = r .len ∙ s .len }
 
   older′ : (x : Accepted) → List·Memᴰ x (new ∷ h .accepted) → (n : ℕ) → isIn n (x .change .named) ≡ true → n < x .number
-  older′ x (List·Memᴰ·head e) n f = subst (λ (z : Accepted). n < z .number) (sym e) (issued n (subst (λ (z : Accepted). isIn n (z .change .named) ≡ true) e f))
+  older′ x (List·Memᴰ·head e) n f = subst (λ (z : Accepted). n < z .number) (sym e) (v .issued n (subst (λ (z : Accepted). isIn n (z .change .named) ≡ true) e f) .1)
   older′ x (List·Memᴰ·tail m) n f = g .older x m n f
 
   within′ : (x : Accepted) → List·Memᴰ x (new ∷ h .accepted) → Within (plain x)
-  within′ x (List·Memᴰ·head e) = subst (λ (z : Accepted). Within (plain z)) (sym e) (record { block = v .block; ends = v .ends })
+  within′ x (List·Memᴰ·head e) = subst (λ (z : Accepted). Within (plain z)) (sym e) (record { block = v .is-block; ends = v .ends })
   within′ x (List·Memᴰ·tail m) = g .within x m
 
   -- a note that agreed agrees still, and the new change is in none

@@ -20,12 +20,13 @@ use Rattle.rules.specs.declared.Hold.the-variants as hold
 use Rattle.rules.specs.declared.State as rules
 use Rattle.rules.specs.declared.State.the-variants as state
 use Rattle.rules.specs.declared.Slot.{Slot}
-use Rattle.rules.specs.Sizes.{blocks, blockBytes, blockStart, undoBytes, slots, rooms, roomStart}
+use Rattle.rules.specs.Sizes.{blockBytes, blockStart, slots, rooms, roomStart}
 use Rattle.rules.specs.Slots.{isUsed, isWaiting, isInFlight, isHard, roomOf}
-use Rattle.rules.specs.Table.{slotAt, used, waitsOn, fliesOn, Sound}
+use Rattle.rules.specs.Table.{slotAt, used, waitsOn, Sound}
 use Rattle.rules.specs.Create.{isIn}
-use Rattle.rules.specs.Write.{MayGo, leftBehind, takenBack, backNumber, backDown, handedOut, sentState, sentSlot, sentSlots, sent}
+use Rattle.rules.specs.Write.{MayGo, Largest, leftBehind, takenBack, backNumber, backDown, handedOut, sentState, sentSlot, sentSlots, sent}
 use Rattle.rules.proofs.After.{sent-at}
+use Rattle.rules.proofs.Granted.{WritePassed}
 use Rattle.rules.proofs.StaysSound.{sent-sound}
 use Rattle.rules.proofs.TakenBack.{number-nowhere, number-there}
 use Rattle.rules.proofs.Pins.{length-back-number, length-handed-out}
@@ -118,8 +119,13 @@ abbrev goAt : ℕ → Option ℕ → Bool
 goAt s none = false
 goAt s (some j) = has s j
 
-module _ (h : History) (g : Good h) (b s : ℕ) (is-block : b < blocks) (undo-whole : length (h .undo) ≡ undoBytes)
-    (none-flies : (i : ℕ) → i < slots → fliesOn (h .table .slots) b i ≡ true → ⊥) (may : MayGo (h .table .slots) b s) (some-goes : (i : ℕ) × (has s i ≡ true)) where
+module _ (h : History) (g : Good h) (lent : List ℕ) (b s : ℕ) (v : WritePassed (h .table) (h .image) (h .undo) lent b) (largest : Largest (h .table .slots) b s) where
+  may : MayGo (h .table .slots) b s
+  may = largest .goes
+
+  some-goes : (i : ℕ) × (has s i ≡ true)
+  some-goes = v .some-goes s largest
+
   abbrev ss : List Slot
   ss = h .table .slots
 
@@ -241,7 +247,7 @@ module _ (h : History) (g : Good h) (b s : ℕ) (is-block : b < blocks) (undo-wh
       go none q f = let y : committed ≡ inFlight = sym (ap (stateAt ss) q) ∙ f in let z : _≡_ {A = ℕ} 0 1 = cc in omega arith
       go (some j) q f =
           let c = slot-carries ss (a .number) j q in
-          none-flies j (c .0) (true-and (word-flying (slotAt ss j .state) (sym (ap (stateAt ss) q) ∙ f)) (eq-eqb (slotAt ss j .block) b (g .link a m j (c .0) (c .1) .block ∙ e)))
+          v .none-flies (j, c .0, true-and (word-flying (slotAt ss j .state) (sym (ap (stateAt ss) q) ∙ f)) (eq-eqb (slotAt ss j .block) b (g .link a m j (c .0) (c .1) .block ∙ e)))
 
   old-undo : (x : Change) → softAt ss′ (slotOf ss′ (x .number)) ≡ true → (softAt ss (slotOf ss (x .number)) ≡ true) × ((i : ℕ) → oldByte ss′ (h .undo) x i ≡ oldByte ss (h .undo) x i)
   old-undo x e = go (slotOf ss (x .number)) refl (sym (ap (softAt ss′) (slot-here (x .number))) ∙ e)
@@ -307,7 +313,7 @@ module _ (h : History) (g : Good h) (b s : ℕ) (is-block : b < blocks) (undo-wh
 
     old-length : length old ≡ slotAt ss j .len
     unfolding old
-    old-length = length-part (h .undo) (roomStart room) (slotAt ss j .len) (omega (arith, room-low, short, undo-whole))
+    old-length = length-part (h .undo) (roomStart room) (slotAt ss j .len) (omega (arith, room-low, short, v .undo-whole))
 
     put-looks : Looks (takenBack ss (h .undo) j xs) (putBack (oldByte ss (h .undo)) (plain a) st)
     unfolding takenBack putBack old room
@@ -393,7 +399,7 @@ module _ (h : History) (g : Good h) (b s : ℕ) (is-block : b < blocks) (undo-wh
       (length-back-number ss behind (h .undo) (a .number) slots xs ∙ size) (one-back a (f a (List·Memᴰ·head refl)) xs st size looks) i k
 
   whole-writ : Whole writ
-  whole-writ = record { is-block = is-block; size = length-handed-out (h .table) b s (h .image) (h .undo) (g .image-whole) is-block }
+  whole-writ = record { is-block = v .is-block; size = length-handed-out (h .table) b s (h .image) (h .undo) (g .image-whole) (v .is-block) }
 
   -- past a block's edge nothing is taken back
   past-back : (l : List Accepted) → ((x : Accepted) → List·Memᴰ x l → List·Memᴰ x (h .accepted)) → (out : Change → Bool) (undo : Change → ℕ → ℕ) (st : Store) (i : ℕ) → blockBytes ≤ i
@@ -414,10 +420,10 @@ module _ (h : History) (g : Good h) (b s : ℕ) (is-block : b < blocks) (undo-wh
   bytes i = go (decLt i blockBytes)
     where
       size : length (part (h .image) (blockStart b) blockBytes) ≡ blockBytes
-      size = length-part (h .image) (blockStart b) blockBytes (omega (arith, g .image-whole))
+      size = length-part (h .image) (blockStart b) blockBytes (omega (arith, g .image-whole, v .is-block))
 
       looks : Looks (part (h .image) (blockStart b) blockBytes) (view (h .image))
-      looks i l = part-in (h .image) (blockStart b) blockBytes i l ∙ sym (view-in (h .image) b i is-block l)
+      looks i l = part-in (h .image) (blockStart b) blockBytes i l ∙ sym (view-in (h .image) b i (v .is-block) l)
 
       go : Dec (i < blockBytes) → view (written (writ ∷ (h .inFlight ++ h .landed)) (h .opening)) b i ≡ takeBack (left b goes (world h)) (oldByte ss (h .undo)) (map plain (h .accepted)) (view (h .image)) b i
       go (yes l) =

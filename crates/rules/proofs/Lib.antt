@@ -10,6 +10,7 @@ pub mod Pins
 pub mod Refused
 pub mod Grants
 pub mod OneAnswer
+pub mod Granted
 pub mod StaysSound
 pub mod SoundCalls
 pub mod Computed

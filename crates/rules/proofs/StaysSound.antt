@@ -8,7 +8,6 @@ use native.Mathlib.Omega.{arith}
 use native.Mathlib.Decide.{ℕ-discrete}
 use borrow.Author.Tests.{eq-eqb, ne-eqb, not-true}
 use lib.Dec.{eqb}
-use lib.ListN.{length}
 use Rattle.masks.specs.Sets.{has, setOf, Sub}
 use Rattle.masks.proofs.Laws.{has-set, has-slot, set-lt}
 use Rattle.masks.proofs.Decided.{clash, and-true, or-true}
@@ -27,6 +26,7 @@ use Rattle.rules.specs.Write.{sentState, sentSlot, sentSlots, sent}
 use Rattle.rules.specs.Complete.{withoutBefores, landing, completedSlots, completed}
 use Rattle.rules.proofs.After.{accepted-at, sent-at, completed-at, befores-at}
 use Rattle.rules.proofs.SlotsBy.{slot-by}
+use Rattle.rules.proofs.Granted.{CreatePassed}
 
 -- the slot n is the slot s, but for its state, where it has no new room, and for befores that it has lost
 pub record Like (n s : Slot) : Type 0 where
@@ -258,14 +258,6 @@ turned-like : (h : Hold) (b : ℕ) (s : Slot) → Like (turned h b s) s
 turned-like hold.Hard b s = state-like (eqb (s .block) b) (turnedState (s .state)) s (turned-used (s .state)) (turned-roomless (s .state))
 turned-like (hold.Soft r) b s = like-self s
 
--- what create has found when no refusal holds
-pub record Valid (t : Table) (c : Change) : Type 0 where
-  pub block : c .block < blocks
-  pub len-least : 1 ≤ length (c .bytes)
-  pub len-most : length (c .bytes) ≤ mostBytes
-  pub ends : c .offset + length (c .bytes) ≤ blockBytes
-  pub last : t .next ≤ lastNumber
-
 -- a slot among the befores of a new patch is in use
 pub befores-are-used : (ss : List Slot) (c : Change) (k : ℕ) → has (befores ss c) k ≡ true → used ss k ≡ true
 unfolding befores
@@ -279,14 +271,20 @@ new-room : (ss : List Slot) (b : ℕ) (h : Hold) → HoldOf ss b h → (r : ℕ)
 new-room ss b h (HoldOf.hard w) r e = absurd (let z : _≡_ {A = ℕ} 0 1 = cc in omega arith)
 new-room ss b h (HoldOf.soft {r = q} w low) r e = let z : q ≡ r = cc in subst (λ (x : ℕ). (x < rooms) × FreeRoom ss x) z (low .within, low .holds)
 
-pub accepted-sound : (t : Table) (c : Change) (j : ℕ) (h : Hold) → Sound t → Valid t c → Lowest slots (FreeSlot (t .slots)) j → HoldOf (t .slots) (c .block) h → Sound (accepted t c j h)
+pub accepted-sound : (t : Table) (image undo : List ℕ) (c : Change) (j : ℕ) (h : Hold) → CreatePassed t image undo c → Lowest slots (FreeSlot (t .slots)) j
+    → HoldOf (t .slots) (c .block) h → Sound (accepted t c j h)
 unfolding accepted patch
-accepted-sound t c j h s v low held =
-    adds-sound (withSlots (slotsBy g) t) (keeps-sound t s (slotsBy g) (λ i l. inr (like i l)) (λ i k l m u b. like k m .used ∙ s .befores-used i k l m (sym (like i l .used) ∙ u) (like i l .befores k b)))
+accepted-sound t image undo c j h v low held =
+    adds-sound (withSlots (slotsBy g) t)
+    (keeps-sound t s (slotsBy g) (λ i l. inr (like i l))
+    (λ i k l m u b. like k m .used ∙ s .befores-used i k l m (sym (like i l .used) ∙ u) (like i l .befores k b)))
     (acceptedSlots (t .slots) (patch t c h) j h) j (patch t c h) (low .within) (like j (low .within) .used ∙ low .holds) fit
     (at j (low .within) ∙ ap (λ (here : Bool). acceptedSlot (patch t c h) h here (slotAt (t .slots) j)) (eq-eqb j j refl))
     (λ i l d. at i l ∙ ap (λ (here : Bool). acceptedSlot (patch t c h) h here (slotAt (t .slots) i)) (ne-eqb i j d) ∙ sym (slot-by g i l))
   where
+    s : Sound t
+    s = v .sound
+
     at : (i : ℕ) → i < slots → slotAt (acceptedSlots (t .slots) (patch t c h) j h) i ≡ acceptedSlot (patch t c h) h (eqb i j) (slotAt (t .slots) i)
     at = accepted-at (t .slots) (patch t c h) j h
 
@@ -301,7 +299,7 @@ accepted-sound t c j h s v low held =
       used = refl;
       number = refl;
       last = v .last;
-      block = v .block;
+      block = v .is-block;
       len-least = v .len-least;
       len-most = v .len-most;
       ends = v .ends;
