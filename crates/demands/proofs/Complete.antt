@@ -9,15 +9,15 @@ use mathlib.Core.Logic.{_≢_, _⊎_, inl, inr, ⊎-elim}
 use borrow.Author.Tests.{eq-eqb, ne-eqb, eqb-true}
 use lib.Dec.{eqb}
 use Rattle.masks.specs.Sets.{has}
-use Rattle.masks.proofs.Laws.{has-set}
 use Rattle.masks.proofs.Decided.{clash, and-true, true-and}
 use Rattle.rules.specs.declared.State as rules
 use Rattle.rules.specs.declared.State.the-variants as state
 use Rattle.rules.specs.declared.Slot.{Slot}
 use Rattle.rules.specs.Sizes.{slots}
-use Rattle.rules.specs.Slots.{isUsed, isInFlight, roomOf, withBefores}
+use Rattle.rules.specs.Slots.{isUsed, isInFlight, roomOf}
 use Rattle.rules.specs.Table.{slotAt, used, fliesOn, Sound}
-use Rattle.rules.specs.Complete.{remaining, completedSlots, completed}
+use Rattle.rules.specs.Complete.{withoutBefores, landing, completedSlots, completed}
+use Rattle.rules.proofs.After.{befores-at}
 use Rattle.rules.proofs.StaysSound.{Finished, finished, completed-sound}
 use Rattle.cut.specs.Changes.{Change}
 use Rattle.cut.specs.World.{State, waiting, inFlight, committed, settled, Lands, Step}
@@ -75,10 +75,11 @@ module _ (h : History) (g : Good h) (b : ℕ) where
   sound′ = completed-sound (h .table) b (g .sound)
 
   -- a used slot afterwards is one that stayed
-  stayed : (i : ℕ) → i < slots → used ss′ i ≡ true → (fliesOn ss b i ≡ false) × (used ss i ≡ true) × (slotAt ss′ i ≡ withBefores (remaining ss b i) (slotAt ss i))
+  stayed : (i : ℕ) → i < slots → used ss′ i ≡ true
+      → (fliesOn ss b i ≡ false) × (used ss i ≡ true) × (slotAt ss′ i ≡ withoutBefores (landing ss b) (slotAt ss i))
   stayed i l u = go (finished ss b i l)
     where
-      go : Finished ss b i (slotAt ss′ i) → (fliesOn ss b i ≡ false) × (used ss i ≡ true) × (slotAt ss′ i ≡ withBefores (remaining ss b i) (slotAt ss i))
+      go : Finished ss b i (slotAt ss′ i) → (fliesOn ss b i ≡ false) × (used ss i ≡ true) × (slotAt ss′ i ≡ withoutBefores (landing ss b) (slotAt ss i))
       go (Finished.commits f e) = absurd (clash u (ap (λ (s : Slot). isUsed (s .state)) e))
       go (Finished.stays f v e) = (f, v, e)
       go (Finished.was-free f v e) = absurd (clash u (ap (λ (s : Slot). isUsed (s .state)) e ∙ v))
@@ -91,7 +92,7 @@ module _ (h : History) (g : Good h) (b : ℕ) where
   data Fate (n : ℕ) : Type 0 where
     gone : slotOf ss n ≡ none → slotOf ss′ n ≡ none → Fate n
     lost : (j : ℕ) → slotOf ss n ≡ some j → fliesOn ss b j ≡ true → slotOf ss′ n ≡ none → Fate n
-    kept : (j : ℕ) → slotOf ss n ≡ some j → fliesOn ss b j ≡ false → slotOf ss′ n ≡ some j → slotAt ss′ j ≡ withBefores (remaining ss b j) (slotAt ss j) → Fate n
+    kept : (j : ℕ) → slotOf ss n ≡ some j → fliesOn ss b j ≡ false → slotOf ss′ n ≡ some j → slotAt ss′ j ≡ withoutBefores (landing ss b) (slotAt ss j) → Fate n
 
   fate : (n : ℕ) → Fate n
   fate n = pick (slotOf ss n) refl
@@ -170,7 +171,7 @@ module _ (h : History) (g : Good h) (b : ℕ) where
             itsIs = q;
             before =
                 ap (λ (s : Slot). has (s .befores) j) y
-                ∙ has-set (λ k. has (slotAt ss i .befores) k && not (fliesOn ss b k)) j (c .0)
+                ∙ befores-at ss b (slotAt ss i) j (c .0)
                 ∙ true-and was (ap not l);
           })
 

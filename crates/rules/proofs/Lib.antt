@@ -2,6 +2,7 @@
 pub mod Cases
 pub mod Outcomes
 pub mod SlotsBy
+pub mod After
 pub mod Lowest
 pub mod Largest
 pub mod TakenBack

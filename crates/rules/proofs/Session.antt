@@ -12,7 +12,7 @@ use Rattle.rules.specs.Table.{slotsFrom}
 use Rattle.rules.specs.Open.{opened}
 use Rattle.rules.specs.Create.{Change, isIn, befores, patch, acceptedSlots, accepted, changed, kept, HoldOf}
 use Rattle.rules.specs.Write.{takenBack, backNumber, backDown, handedOut, sentSlots, sent}
-use Rattle.rules.specs.Complete.{completedSlots, completed}
+use Rattle.rules.specs.Complete.{landedSlots, completedSlots, completed}
 use Rattle.rules.specs.Calls.{createGranted, writeGranted, completeGranted}
 use Rattle.rules.specs.Rows.{Radio, Runs, rowsP1toP10}
 use Rattle.rules.proofs.StaysSound.{opened-sound}
@@ -95,30 +95,34 @@ abbrev r8a : Radio
 r8a = afterComplete r6 (completeGranted (r6 .table) 1)
 
 P8b : Went r8a lent 2 6
-unfolding slotsFrom accepted acceptedSlots patch befores isIn setBelow sent sentSlots completed completedSlots passesBelow clearIn hardsStay round rounds has bit
+unfolding slotsFrom accepted acceptedSlots patch befores isIn setBelow sent sentSlots
+    completed completedSlots landedSlots passesBelow clearIn hardsStay round rounds has bit
 P8b = write-row r8a (P8a .1) 2 lent (omega arith) refl 1 refl refl refl 6 1 refl refl
 
 abbrev r8 : Radio
 r8 = afterWrite (writeGranted (r8a .table) (r8a .image) (r8a .undo) 2 6)
 
 P9 : Stayed r8 lent 1 13
-unfolding slotsFrom accepted acceptedSlots patch befores isIn setBelow sent sentSlots completed completedSlots passesBelow clearIn hardsStay round rounds has bit
+unfolding slotsFrom accepted acceptedSlots patch befores isIn setBelow sent sentSlots
+    completed completedSlots landedSlots passesBelow clearIn hardsStay round rounds has bit
 P9 = write-none r8 (P8b .1) 1 lent (omega arith) refl 2 refl refl refl 3 (omega arith) refl refl
 
 P10a : Done r8 2
-unfolding slotsFrom accepted acceptedSlots patch befores isIn setBelow sent sentSlots completed completedSlots has bit
+unfolding slotsFrom accepted acceptedSlots patch befores isIn setBelow sent sentSlots completed completedSlots landedSlots has bit
 P10a = complete-row r8 (P8b .1) 2 1 (omega arith) (omega arith) refl
 
 abbrev r10 : Radio
 r10 = afterComplete r8 (completeGranted (r8 .table) 2)
 
 P10b : Went r10 lent 1 8
-unfolding slotsFrom accepted acceptedSlots patch befores isIn setBelow sent sentSlots completed completedSlots passesBelow clearIn hardsStay round rounds has bit
+unfolding slotsFrom accepted acceptedSlots patch befores isIn setBelow sent sentSlots
+    completed completedSlots landedSlots passesBelow clearIn hardsStay round rounds has bit
 P10b = write-row r10 (P10a .1) 1 lent (omega arith) refl 1 refl refl refl 8 3 refl refl
 
 -- the rows, one after the other; the answers and the bytes handed out compute to those of the table
 pub session : Runs r0 rowsP1toP10
-unfolding rowsP1toP10 slotsFrom accepted acceptedSlots patch befores isIn setBelow sent sentSlots completed completedSlots changed kept splice handedOut backDown backNumber takenBack has bit
+unfolding rowsP1toP10 slotsFrom accepted acceptedSlots patch befores isIn setBelow sent sentSlots
+    completed completedSlots landedSlots changed kept splice handedOut backDown backNumber takenBack has bit
 session =
     Runs.creates _ (P1 .0)
     (Runs.creates _ (P2 .0)

@@ -58,9 +58,13 @@ sentState state.Free = state.Free
 sentState (state.Waiting h) = state.InFlight (kindOf h)
 sentState (state.InFlight k) = state.InFlight k
 
+-- a slot whose patch `goes`, or does not
+abbrev pub sentSlot : Bool → Slot → Slot
+sentSlot goes s = cond goes (withState (sentState (s .state)) s) s
+
 -- the next slots: the patches of s in flight
 unfoldable pub sentSlots : List Slot → ℕ → List Slot
-sentSlots ss s = slotsBy (λ i. cond (has s i) (withState (sentState (slotAt ss i .state)) (slotAt ss i)) (slotAt ss i))
+sentSlots ss s = slotsBy (λ i. sentSlot (has s i) (slotAt ss i))
 
 -- the next table
 unfoldable pub sent : Table → ℕ → Table

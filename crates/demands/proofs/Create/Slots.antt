@@ -18,8 +18,8 @@ use Rattle.rules.specs.Sizes.{slots}
 use Rattle.rules.specs.Slots.{isUsed, withState}
 use Rattle.rules.specs.Table.{slotAt, used, Sound}
 use Rattle.rules.specs.Create as create
-use Rattle.rules.specs.Create.{Lowest, FreeSlot, HoldOf, patch, turned, turnedState, acceptedSlots, accepted, changed, kept}
-use Rattle.rules.proofs.SlotsBy.{slot-by}
+use Rattle.rules.specs.Create.{Lowest, FreeSlot, HoldOf, patch, turned, turnedState, acceptedSlot, acceptedSlots, accepted, changed, kept}
+use Rattle.rules.proofs.After.{accepted-at}
 use Rattle.rules.proofs.Granted.{CreatePassed}
 use Rattle.rules.proofs.StaysSound.{accepted-sound}
 use Rattle.cut.specs.Changes.{Change}
@@ -94,18 +94,15 @@ module _ {h : History} {c : create.Change} {j : ℕ} {k : Hold} (d : Making h c 
     isOld : i ≢ j → Stays (slotAt ss′ i) (slotAt ss i) → At i
 
   pub at : (i : ℕ) → i < slots → At i
-  unfolding acceptedSlots patch
+  unfolding patch
   at i l = go (same-or-other i j)
     where
-      f : ℕ → Slot
-      f i = cond (eqb i j) (patch (h .table) c k) (turned k (c .block) (slotAt ss i))
-
-      old : eqb i j ≡ false → slotAt ss′ i ≡ turned k (c .block) (slotAt ss i)
-      old e = slot-by f i l ∙ ap (λ (x : Bool). cond x (patch (h .table) c k) (turned k (c .block) (slotAt ss i))) e
+      now : (here : Bool) → eqb i j ≡ here → slotAt ss′ i ≡ acceptedSlot (patch (h .table) c k) k here (slotAt ss i)
+      now here e = accepted-at ss (patch (h .table) c k) j k i l ∙ ap (λ (x : Bool). acceptedSlot (patch (h .table) c k) k x (slotAt ss i)) e
 
       go : (i ≡ j) ⊎ (i ≢ j) → At i
-      go (inl e) = isNew e (slot-by f i l ∙ ap (λ (x : Bool). cond x (patch (h .table) c k) (turned k (c .block) (slotAt ss i))) (eq-eqb i j e))
-      go (inr n) = isOld n (subst (λ (x : Slot). Stays x (slotAt ss i)) (sym (old (ne-eqb i j n))) (turned-stays k (c .block) (slotAt ss i)))
+      go (inl e) = isNew e (now true (eq-eqb i j e))
+      go (inr n) = isOld n (subst (λ (x : Slot). Stays x (slotAt ss i)) (sym (now false (ne-eqb i j n))) (turned-stays k (c .block) (slotAt ss i)))
 
   pub new-at : slotAt ss′ j ≡ patch (h .table) c k
   new-at = go (at j (d .lowest .within))

@@ -11,10 +11,10 @@ use Rattle.rules.specs.declared.State as rules
 use Rattle.rules.specs.declared.State.the-variants as state
 use Rattle.rules.specs.declared.Slot.{Slot}
 use Rattle.rules.specs.Sizes.{slots}
-use Rattle.rules.specs.Slots.{isUsed, isWaiting, withState}
+use Rattle.rules.specs.Slots.{isUsed, isWaiting}
 use Rattle.rules.specs.Table.{slotAt, Sound}
-use Rattle.rules.specs.Write.{MayGo, Largest, handedOut, sentState, sentSlots, sent}
-use Rattle.rules.proofs.SlotsBy.{slot-by}
+use Rattle.rules.specs.Write.{MayGo, Largest, handedOut, sentState, sentSlot, sentSlots, sent}
+use Rattle.rules.proofs.After.{sent-at}
 use Rattle.rules.proofs.Granted.{WritePassed}
 use Rattle.rules.proofs.StaysSound.{sent-sound}
 use Rattle.cut.specs.Changes.{Change}
@@ -40,6 +40,14 @@ sent-hard : (u : rules.State) → isSoft (sentState u) ≡ true → sentState u 
 sent-hard state.Free e = refl
 sent-hard (state.Waiting h) e = absurd (clash e refl)
 sent-hard (state.InFlight k) e = refl
+
+sent-kin : (goes : Bool) (s : Slot) → Kin (sentSlot goes s) s
+sent-kin true s = record { used = sent-used (s .state); soft = sent-hard (s .state); number = refl; block = refl; offset = refl; len = refl }
+sent-kin false s = record { used = refl; soft = λ e. refl; number = refl; block = refl; offset = refl; len = refl }
+
+sent-befores : (goes : Bool) (s : Slot) → sentSlot goes s .befores ≡ s .befores
+sent-befores true s = refl
+sent-befores false s = refl
 
 -- is the slot that a number has, if any, in the set?
 abbrev pub goAt : ℕ → Option ℕ → Bool
@@ -92,36 +100,17 @@ module _ {h : History} {b s : ℕ} (d : Sending h b s) where
 
   -- ---- slots
 
-  at : (i : ℕ) → i < slots → slotAt ss′ i ≡ cond (has s i) (withState (sentState (slotAt ss i .state)) (slotAt ss i)) (slotAt ss i)
-  unfolding sentSlots
-  at i l = slot-by (λ i. cond (has s i) (withState (sentState (slotAt ss i .state)) (slotAt ss i)) (slotAt ss i)) i l
-
-  at-goes : (i : ℕ) → i < slots → has s i ≡ true → slotAt ss′ i ≡ withState (sentState (slotAt ss i .state)) (slotAt ss i)
-  at-goes i l e = at i l ∙ ap (λ (v : Bool). cond v (withState (sentState (slotAt ss i .state)) (slotAt ss i)) (slotAt ss i)) e
+  at-goes : (i : ℕ) → i < slots → has s i ≡ true → slotAt ss′ i ≡ sentSlot true (slotAt ss i)
+  at-goes i l e = sent-at ss s i l ∙ ap (λ (goes : Bool). sentSlot goes (slotAt ss i)) e
 
   at-stays : (i : ℕ) → i < slots → has s i ≡ false → slotAt ss′ i ≡ slotAt ss i
-  at-stays i l e = at i l ∙ ap (λ (v : Bool). cond v (withState (sentState (slotAt ss i .state)) (slotAt ss i)) (slotAt ss i)) e
+  at-stays i l e = sent-at ss s i l ∙ ap (λ (goes : Bool). sentSlot goes (slotAt ss i)) e
 
   pub kin : (i : ℕ) → i < slots → Kin (slotAt ss′ i) (slotAt ss i)
-  kin i l = subst (λ (n : Slot). Kin n (slotAt ss i)) (sym (at i l)) (go (has s i))
-    where
-      go : (v : Bool) → Kin (cond v (withState (sentState (slotAt ss i .state)) (slotAt ss i)) (slotAt ss i)) (slotAt ss i)
-      go true = record {
-        used = sent-used (slotAt ss i .state);
-        soft = sent-hard (slotAt ss i .state);
-        number = refl;
-        block = refl;
-        offset = refl;
-        len = refl;
-      }
-      go false = record { used = refl; soft = λ e. refl; number = refl; block = refl; offset = refl; len = refl }
+  kin i l = subst (λ (n : Slot). Kin n (slotAt ss i)) (sym (sent-at ss s i l)) (sent-kin (has s i) (slotAt ss i))
 
   pub befores-stay : (i : ℕ) → i < slots → slotAt ss′ i .befores ≡ slotAt ss i .befores
-  befores-stay i l = ap (λ (x : Slot). x .befores) (at i l) ∙ go (has s i)
-    where
-      go : (v : Bool) → cond v (withState (sentState (slotAt ss i .state)) (slotAt ss i)) (slotAt ss i) .befores ≡ slotAt ss i .befores
-      go true = refl
-      go false = refl
+  befores-stay i l = ap (λ (x : Slot). x .befores) (sent-at ss s i l) ∙ sent-befores (has s i) (slotAt ss i)
 
   -- ---- numbers
 
