@@ -12,6 +12,7 @@ pub mod Write
 pub mod Histories
 pub mod Safe
 pub mod Besides
+pub mod Later
 pub mod Demand3
 pub mod Reach
 pub mod QuestionFour

@@ -1,24 +1,30 @@
 -- A history as the world of `cut` sees it, and what holds of it between two calls.
 use Prim.Native.Nat.{ℕ, _+_, _-_, _≤_, _<_}
-use mathlib.Core.Path.{_≡_, refl, sym, _∙_}
+use mathlib.Core.Path.{_≡_, refl, sym, _∙_, ap}
 use mathlib.Core.Bool.{Bool, true, false, cond}
-use borrow.Author.Tests.{lt-ltb, ltb-true}
+use borrow.Author.Tests.{eq-eqb, lt-ltb, ltb-true}
+use native.Mathlib.Omega.{arith}
 use lib.Dec.{ltb}
 use mathlib.Core.List.{List, _++_, map, List·Memᴰ}
+use mathlib.Core.Logic.{_≢_}
+use mathlib.Core.Option.{Option, none, some}
 use lib.ListN.{length, getD}
 use Rattle.rules.specs.declared.Slot.{Slot}
 use Rattle.rules.specs.Sizes.{imageBytes, roomStart, roomBytes}
-use Rattle.rules.specs.Table.{Sound}
+use Rattle.rules.specs.Table.{slotAt, Sound}
 use Rattle.rules.specs.Create.{isIn}
+use Rattle.rules.specs.Refusals.{Flies}
+use Rattle.masks.proofs.Decided.{true-and}
 use Rattle.cut.specs.Changes.{Change}
-use Rattle.cut.specs.World.{World}
+use Rattle.cut.specs.World.{World, inFlight, committed}
 use Rattle.cut.proofs.Invariant.{Invariant}
 use Rattle.demands.specs.History.{History, Accepted, Sent}
 use Rattle.demands.specs.Demand3.{written, sentIn, timesSent}
 use Rattle.demands.proofs.Log.{plain, Numbered, NamesOlder, block-one}
 use Rattle.demands.proofs.Views.{view, Within}
 use Rattle.demands.proofs.Notes.{AllWhole, mem-left}
-use Rattle.demands.proofs.Words.{wordOf, softOf, roomFor, Tied, isDone, isOut}
+use Rattle.demands.proofs.Lookup.{slotOf, slot-carries}
+use Rattle.demands.proofs.Words.{stateAt, wordOf, softOf, roomFor, Tied, isDone, isOut, word-flying}
 use Rattle.demands.proofs.Linked.{Linked}
 
 -- y's caller named x's number
@@ -96,3 +102,18 @@ pub sent-to : (h : History) → Good h → (a : Accepted) → List·Memᴰ a (h 
 sent-to h g a m w k f =
     let r = g .sent w (mem-left (h .landed) w k) (a .number) f in
     sym (r .3) ∙ block-one (r .0) a (g .numbers) (r .1) m (r .2)
+
+-- where no patch of a block is in flight, none of its changes is
+pub none-out : (h : History) → Good h → (b : ℕ) → (Flies (h .table .slots) b → ⊥) → (a : Accepted) → List·Memᴰ a (h .accepted) → a .change .block ≡ b
+    → wordOf (h .table .slots) (a .number) ≢ inFlight
+none-out h g b none-flies a m e = go (slotOf ss (a .number)) refl
+  where
+    ss : List Slot
+    ss = h .table .slots
+
+    go : (p : Option ℕ) → slotOf ss (a .number) ≡ p → wordOf ss (a .number) ≢ inFlight
+    go none q f = let y : committed ≡ inFlight = sym (ap (stateAt ss) q) ∙ f in let z : _≡_ {A = ℕ} 0 1 = cc in omega arith
+    go (some j) q f =
+        let c = slot-carries ss (a .number) j q in
+        let at-block = eq-eqb (slotAt ss j .block) b (g .linked .block a m j c ∙ e) in
+        none-flies (j, c .0, true-and (word-flying (slotAt ss j .state) (sym (ap (stateAt ss) q) ∙ f)) at-block)

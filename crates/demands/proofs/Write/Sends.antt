@@ -22,7 +22,7 @@ use Rattle.demands.proofs.Views.{view, inside-of}
 use Rattle.demands.proofs.Notes.{whole, view-written}
 use Rattle.demands.proofs.Lookup.{slotOf, slot-carries}
 use Rattle.demands.proofs.Words.{isSoft, stateAt, softAt, roomAt, wordOf, softOf, roomFor, Tied, word-flying}
-use Rattle.demands.proofs.Radio.{roomByte, oldByte, world}
+use Rattle.demands.proofs.Radio.{roomByte, oldByte, world, none-out}
 use Rattle.demands.proofs.Write.Slots.{Sending, writ, gone, may, goAt, goes, kin, befores-stay, slot-here, go-state, stay-state, members}
 use Rattle.demands.proofs.Write.Left.{left-soft}
 use Rattle.demands.proofs.Write.Back.{whole-writ, bytes}
@@ -36,16 +36,6 @@ module _ {h : History} {b s : ℕ} (d : Sending h b s) where
 
   go-tied : (m n : ℕ) → goAt s (slotOf ss m) ≡ true → Tied ss m n → goAt s (slotOf ss n) ≡ true
   go-tied m n e t = ap (goAt s) (t .itsIs) ∙ may d .closed (t .mine) (sym (ap (goAt s) (t .mineIs)) ∙ e) (t .its) (t .before)
-
-  none-out : (a : Accepted) → List·Memᴰ a (h .accepted) → a .change .block ≡ b → wordOf ss (a .number) ≢ inFlight
-  none-out a m e = go (slotOf ss (a .number)) refl
-    where
-      go : (p : Option ℕ) → slotOf ss (a .number) ≡ p → wordOf ss (a .number) ≢ inFlight
-      go none q f = let y : committed ≡ inFlight = sym (ap (stateAt ss) q) ∙ f in let z : _≡_ {A = ℕ} 0 1 = cc in omega arith
-      go (some j) q f =
-          let c = slot-carries ss (a .number) j q in
-          let at-block = eq-eqb (slotAt ss j .block) b (d .good .linked .block a m j c ∙ e) in
-          d .passed .none-flies (j, c .0, true-and (word-flying (slotAt ss j .state) (sym (ap (stateAt ss) q) ∙ f)) at-block)
 
   old-undo : (x : Change) → softOf ss′ (x .number) ≡ true
       → (softOf ss (x .number) ≡ true) × ((i : ℕ) → oldByte ss′ (h .undo) x i ≡ oldByte ss (h .undo) x i)
@@ -85,7 +75,7 @@ module _ {h : History} {b s : ℕ} (d : Sending h b s) where
     goes = on-log (h .accepted) (λ x. goes d x ≡ true → (wordOf ss (x .number) ≡ waiting) × (x .block ≡ b)) (members d);
     goTied = λ y x my mx e t. inr (go-tied (y .number) (x .number) e t);
     leftKept = on-log (h .accepted) (λ x. left b (goes d) (world h) x ≡ true → softOf ss (x .number) ≡ true) (left-soft d);
-    free = on-log (h .accepted) (λ x. x .block ≡ b → wordOf ss (x .number) ≢ inFlight) none-out;
+    free = on-log (h .accepted) (λ x. x .block ≡ b → wordOf ss (x .number) ≢ inFlight) (none-out h (d .good) b (d .passed .none-flies));
     bytes = bytes d;
     others = others;
     goState = λ x m e. go-state d (x .number) e;
