@@ -22,7 +22,7 @@ use Rattle.demands.proofs.Log.{Numbered, oldest-in, newer-in}
 use Rattle.demands.proofs.Radio.{Good}
 use Rattle.demands.proofs.Create.Leaves.{created-good}
 use Rattle.demands.proofs.Write.Leaves.{gone-good}
-use Rattle.demands.proofs.Complete.{landed-good}
+use Rattle.demands.proofs.Complete.Leaves.{landed-good}
 
 -- ---- open
 
@@ -91,7 +91,7 @@ module _ (h : History) (g : Good h) where
     where
       go : Dec (plainNumber (o .answer) ≡ 0) → Good (afterComplete h b o)
       go (no d) = subst (λ (x : Completion). Good (afterComplete h b x)) (sym (p .refusal d)) g
-      go (yes z) = subst (λ (x : Completion). Good (afterComplete h b x)) (sym (p .grant z)) (landed-good h g b)
+      go (yes z) = subst (λ (x : Completion). Good (afterComplete h b x)) (sym (p .grant z)) (landed-good g b)
 
 call-good : {h h′ : History} → Good h → Call h h′ → Good h′
 call-good {h} g (Call.creates c o p) = create-good h g c o p

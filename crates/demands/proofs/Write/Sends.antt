@@ -1,27 +1,25 @@
 -- A granted write as a sending of `cut`: what goes, what it leaves of undo data and ties, and the blocks that it does not touch.
 use Prim.Native.Nat.{ℕ, _-_}
-use native.Mathlib.Omega.{arith}
 use mathlib.Core.Path.{_≡_, refl, sym, _∙_, ap}
 use mathlib.Core.Bool.{true}
-use mathlib.Core.List.{List, _∷_, _++_, List·Memᴰ}
+use mathlib.Core.List.{List, _∷_, _++_}
 use mathlib.Core.Option.{Option, none, some}
 use mathlib.Core.Logic.{_≢_, inr, ⊎-elim}
-use borrow.Author.Tests.{eq-eqb}
 use Rattle.masks.specs.Sets.{has}
-use Rattle.masks.proofs.Decided.{clash, true-and, true-or-false}
+use Rattle.masks.proofs.Decided.{clash, true-or-false}
 use Rattle.rules.specs.declared.Slot.{Slot}
 use Rattle.rules.specs.Slots.{roomOf}
 use Rattle.rules.specs.Table.{slotAt}
 use Rattle.cut.specs.Changes.{Change, covers}
-use Rattle.cut.specs.World.{waiting, inFlight, committed, left, Sends}
+use Rattle.cut.specs.World.{waiting, inFlight, left, Sends}
 use Rattle.cut.proofs.Facts.{carry-outside}
-use Rattle.demands.specs.History.{History, Accepted}
+use Rattle.demands.specs.History.{History}
 use Rattle.demands.specs.Demand3.{written}
 use Rattle.demands.proofs.Log.{on-log}
 use Rattle.demands.proofs.Views.{view, inside-of}
 use Rattle.demands.proofs.Notes.{whole, view-written}
 use Rattle.demands.proofs.Lookup.{slotOf, slot-carries}
-use Rattle.demands.proofs.Words.{isSoft, stateAt, softAt, roomAt, wordOf, softOf, roomFor, Tied, word-flying}
+use Rattle.demands.proofs.Words.{isSoft, softAt, roomAt, wordOf, softOf, roomFor, Tied}
 use Rattle.demands.proofs.Radio.{roomByte, oldByte, world, none-out}
 use Rattle.demands.proofs.Write.Slots.{Sending, writ, gone, may, goAt, goes, kin, befores-stay, slot-here, go-state, stay-state, members}
 use Rattle.demands.proofs.Write.Left.{left-soft}
