@@ -40,7 +40,8 @@ view-carried : (test : Accepted → Bool) (word : Change → Bool) (store : List
 unfolding carriedOut changed after only
 view-carried test word store e b i [] f w = refl
 view-carried test word store e b i (a ∷ l) f w =
-    go (test a) (word (plain a)) (f a (List·Memᴰ·head refl)) (view-carried test word store e b i l (λ x m. f x (List·Memᴰ·tail m)) (λ x m. w x (List·Memᴰ·tail m)))
+    go (test a) (word (plain a)) (f a (List·Memᴰ·head refl))
+    (view-carried test word store e b i l (λ x m. f x (List·Memᴰ·tail m)) (λ x m. w x (List·Memᴰ·tail m)))
   where
     go : (u v : Bool) → u ≡ v → view (carriedOut test l store) b i ≡ after (only word (map plain l)) (view store) b i
         → view (cond u (changed (carriedOut test l store) (a .change)) (carriedOut test l store)) b i
@@ -78,12 +79,16 @@ module _ (h : History) (g : Good h) (new : ℕ → Bool) where
   unfolding storeAfterCut onStore afterCut
   cut-seen b i = some-written (h .opening) (g .opening-whole) b i new (h .inFlight) (h .landed) (λ w m. g .whole w (mem-left (h .landed) w m))
 
+  carried : (b i : ℕ) → view (carriedOut (hasLanded new h) (h .accepted) (h .opening)) b i
+      ≡ after (only (landed new (radio.world h)) (map plain (h .accepted))) (view (h .opening)) b i
+  carried b i = view-carried (hasLanded new h) (landed new (radio.world h)) (h .opening) (g .opening-whole) b i (h .accepted) landed-agrees (g .within)
+
   holds : storeAfterCut new h ≡ carriedOut (hasLanded new h) (h .accepted) (h .opening)
   unfolding storeAfterCut
   holds =
       view-same (storeAfterCut new h) (carriedOut (hasLanded new h) (h .accepted) (h .opening))
       (length-written (onStore new h) (h .opening) ∙ g .opening-whole) (length-carried (hasLanded new h) (h .accepted) (h .opening) ∙ g .opening-whole)
-      (λ b i. cut-seen b i ∙ safe .holds b i ∙ sym (view-carried (hasLanded new h) (landed new (radio.world h)) (h .opening) (g .opening-whole) b i (h .accepted) landed-agrees (g .within)))
+      (λ b i. cut-seen b i ∙ safe .holds b i ∙ sym (carried b i))
 
   asked : (y x : Accepted) → AskedFor h y x → world.Asked (radio.world h) (plain y) (plain x)
   asked y x a = record {

@@ -50,12 +50,16 @@ module _ (r : Run) where
 
       by : Dec (createNumber (o .answer) ≡ 0) → meant (afterCreate r c (createEnd (r .bytes) o)) ≡ history.afterCreate (meant r) c o
       by (yes z) =
-          subst (λ (x : Creation). tableIn (bytesOf (x .table)) ≡ x .table → meant (afterCreate r c (createEnd (r .bytes) x)) ≡ history.afterCreate (meant r) c x)
-          (sym (p .grant z .whole)) (λ e. ap (withTable (history.afterCreate (meant r) c (createGranted t (r .image) (r .undo) c (p .grant z .slot) (p .grant z .hold)))) e) (kept z)
+          let a = p .grant z in
+          let granted = createGranted t (r .image) (r .undo) c (a .slot) (a .hold) in
+          subst
+          (λ (x : Creation). tableIn (bytesOf (x .table)) ≡ x .table → meant (afterCreate r c (createEnd (r .bytes) x)) ≡ history.afterCreate (meant r) c x)
+          (sym (a .whole)) (λ e. ap (withTable (history.afterCreate (meant r) c granted)) e) (kept z)
       by (no d) =
           subst (λ (x : Creation). meant (afterCreate r c (createEnd (r .bytes) x)) ≡ history.afterCreate (meant r) c x) (sym (p .refusal d)) (refused _ d)
 
-  write-means : (b : ℕ) (lent : List ℕ) (o : Writing) → Writes t (r .image) (r .undo) lent b o → (writeNumber (o .answer) ≡ 0 → tableIn (bytesOf (o .table)) ≡ o .table)
+  write-means : (b : ℕ) (lent : List ℕ) (o : Writing) → Writes t (r .image) (r .undo) lent b o
+      → (writeNumber (o .answer) ≡ 0 → tableIn (bytesOf (o .table)) ≡ o .table)
       → meant (afterWrite r b (writeEnd (r .bytes) o)) ≡ history.afterWrite (meant r) b o
   unfolding history.afterWrite
   write-means b lent o p kept = by (ℕ-discrete (writeNumber (o .answer)) 0)
@@ -88,7 +92,8 @@ module _ (r : Run) where
           (sym (p .grant z)) (λ e. ap (withTable (history.afterComplete (meant r) b (completeGranted t b))) e) (kept z)
       by (no d) = subst (λ (x : Completion). meant (after x) ≡ history.afterComplete (meant r) b x) (sym (p .refusal d)) (refused _ d)
 
-begun-means : (o : Opening) (store undo : List ℕ) → tableIn (bytesOf (o .table)) ≡ o .table → meant (begun (bytesOf (o .table)) store undo) ≡ history.begun o store undo
+begun-means : (o : Opening) (store undo : List ℕ) → tableIn (bytesOf (o .table)) ≡ o .table
+    → meant (begun (bytesOf (o .table)) store undo) ≡ history.begun o store undo
 unfolding history.begun
 begun-means o store undo kept = ap (withTable (history.begun o store undo)) kept
 

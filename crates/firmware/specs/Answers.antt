@@ -39,6 +39,7 @@ pub record FirmwareQuestionSeven : Type 0 where
   pub write-refused : (table image undo handed : List ℕ) (b : ℕ) (e : WriteEnd) → WriteCall table image undo handed b e → (e .refusal ≡ 0 → ⊥)
       → (e .table ≡ table) × (e .handed ≡ handed)
   pub complete-refused : (table : List ℕ) (b refusal : ℕ) (after : List ℕ) → CompleteCall table b refusal after → (refusal ≡ 0 → ⊥) → after ≡ table
-  -- on the store, after any run and any cut: a place that no landed change names holds its opening byte, any other the byte of the last accepted landed change that names it
+  -- on the store, after any run and any cut: a place that no landed change names holds its opening byte, any other the byte of the last accepted
+  -- landed change that names it
   pub store : (r : Run) → Happened r → (new : ℕ → Bool) (p : ℕ) → p < imageBytes
       → Holds (hasLanded new (meant r)) (r .accepted) (r .opening) p (getD (storeAfterCut new (meant r)) p 0)
