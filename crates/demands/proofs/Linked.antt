@@ -1,20 +1,22 @@
 -- What the slots say of the changes of the log, in clauses that leave room for several changes under one number; and that they still say it when a call keeps
 -- numbers, blocks and ranges.
 use Prim.Native.Nat.{ℕ, _<_}
-use mathlib.Core.Path.{_≡_, sym, _∙_, ap, subst}
+use mathlib.Core.Path.{_≡_, refl, sym, _∙_, ap, subst}
 use mathlib.Core.Bool.{true}
 use mathlib.Core.List.{List, List·Memᴰ}
+use mathlib.Core.Option.{Option, none, some}
+use Rattle.masks.proofs.Decided.{clash}
 use lib.ListN.{length}
 use Rattle.rules.specs.declared.Slot.{Slot}
 use Rattle.rules.specs.Sizes.{slots}
-use Rattle.rules.specs.Slots.{isUsed}
+use Rattle.rules.specs.Slots.{isUsed, roomOf}
 use Rattle.rules.specs.Table.{slotAt, used}
 use Rattle.rules.specs.Create.{overlaps}
 use Rattle.cut.specs.Changes.{Change, Share}
 use Rattle.demands.specs.History.{Accepted}
 use Rattle.demands.proofs.Log.{plain, Oldest, Once}
-use Rattle.demands.proofs.Lookup.{carries, carries-used, carries-number, carries-of}
-use Rattle.demands.proofs.Words.{isSoft, soft-used}
+use Rattle.demands.proofs.Lookup.{carries, slotOf, carries-used, carries-number, carries-of}
+use Rattle.demands.proofs.Words.{isSoft, softAt, roomAt, softOf, roomFor, soft-used}
 
 -- the slot has the change's range
 pub record Range (s : Slot) (c : Change) : Type 0 where
@@ -71,3 +73,15 @@ linked-kept ss ss′ l kin k = record {
   where
     near : (a : Accepted) (i : ℕ) → Has ss′ a i → Kin (slotAt ss′ i) (slotAt ss i)
     near a i h = kin i (h .0) (carries-used ss′ (a .number) i (h .1))
+
+-- a number that keeps its slot has its room afterwards only if it had it
+pub room-stays : (ss ss′ : List Slot) (n : ℕ) → slotOf ss′ n ≡ slotOf ss n → ((i : ℕ) → slotOf ss n ≡ some i → Kin (slotAt ss′ i) (slotAt ss i))
+    → softOf ss′ n ≡ true → (softOf ss n ≡ true) × (roomFor ss′ n ≡ roomFor ss n)
+room-stays ss ss′ n e kin = go (slotOf ss n) refl
+  where
+    go : (p : Option ℕ) → slotOf ss n ≡ p → softOf ss′ n ≡ true → (softOf ss n ≡ true) × (roomFor ss′ n ≡ roomFor ss n)
+    go none q u = absurd (clash u (ap (softAt ss′) (e ∙ q)))
+    go (some i) q u =
+        let soft : isSoft (slotAt ss′ i .state) ≡ true = sym (ap (softAt ss′) (e ∙ q)) ∙ u in
+        let same : slotAt ss′ i .state ≡ slotAt ss i .state = kin i q .soft soft in
+        (ap (softAt ss) q ∙ sym (ap isSoft same) ∙ soft, ap (roomAt ss′) (e ∙ q) ∙ ap roomOf same ∙ sym (ap (roomAt ss) q))

@@ -1,7 +1,7 @@
 -- Where a number's patch is, whether it has a room, and what it is tied to: read off its slot, in the words of `cut`.
 use Prim.Native.Nat.{ℕ}
 use native.Mathlib.Omega.{arith}
-use mathlib.Core.Path.{_≡_, refl}
+use mathlib.Core.Path.{_≡_, refl, _∙_}
 use mathlib.Core.Bool.{Bool, true, false}
 use mathlib.Core.List.{List}
 use mathlib.Core.Option.{Option, none, some}
@@ -59,6 +59,18 @@ pub record Tied (ss : List Slot) (m n : ℕ) : Type 0 where
   pub mineIs : slotOf ss m ≡ some mine
   pub itsIs : slotOf ss n ≡ some its
   pub before : has (slotAt ss mine .befores) its ≡ true
+
+-- a tie stands where both numbers keep their slots, and the one its before
+pub tie-stays : (ss ss′ : List Slot) (m n : ℕ) → slotOf ss′ m ≡ slotOf ss m → slotOf ss′ n ≡ slotOf ss n
+    → ((i j : ℕ) → slotOf ss m ≡ some i → slotOf ss n ≡ some j → has (slotAt ss i .befores) j ≡ true → has (slotAt ss′ i .befores) j ≡ true)
+    → Tied ss m n → Tied ss′ m n
+tie-stays ss ss′ m n em en f t = record {
+  mine = t .mine;
+  its = t .its;
+  mineIs = em ∙ t .mineIs;
+  itsIs = en ∙ t .itsIs;
+  before = f (t .mine) (t .its) (t .mineIs) (t .itsIs) (t .before);
+}
 
 -- is the state that of a change on the store; on its way
 abbrev pub isDone : State → Bool

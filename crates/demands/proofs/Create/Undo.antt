@@ -15,7 +15,7 @@ use Rattle.rules.specs.declared.Hold.{Hold}
 use Rattle.rules.specs.declared.Hold.the-variants as hold
 use Rattle.rules.specs.declared.State.the-variants as state
 use Rattle.rules.specs.declared.Slot.{Slot}
-use Rattle.rules.specs.Sizes.{blockStart, rooms, roomStart}
+use Rattle.rules.specs.Sizes.{blockStart, slots, rooms, roomStart}
 use Rattle.rules.specs.Slots.{roomOf}
 use Rattle.rules.specs.Table.{slotAt, HasRoom}
 use Rattle.rules.specs.Create as create
@@ -26,6 +26,7 @@ use Rattle.demands.proofs.Log.{plain}
 use Rattle.demands.proofs.Views.{view, view-in, inside-of}
 use Rattle.demands.proofs.Lookup.{slotOf, carries-used, slot-carries}
 use Rattle.demands.proofs.Words.{isSoft, softAt, roomAt, softOf, roomFor, soft-room}
+use Rattle.demands.proofs.Linked.{room-stays}
 use Rattle.demands.proofs.Radio.{roomByte, room-byte, rooms-alike, oldByte}
 use Rattle.demands.proofs.Create.Slots.{Making, new, made, new-at, kin, slot-old, slot-new, below-log}
 
@@ -101,28 +102,30 @@ module _ {h : History} {c : create.Change} {j : ℕ} {k : Hold} (d : Making h c 
           ∙ ap (λ (x : ℕ). getD (h .image) x 0) spot
           ∙ sym (view-in (h .image) b i (omega (arith, q .0, v .is-block)) (omega (arith, q .2, v .ends)))
 
+  -- the room of an older change is not the one taken, and its bytes stay
+  old-room : (i : ℕ) → i < slots → isSoft (slotAt ss i .state) ≡ true → (n : ℕ)
+      → roomByte (made d .undo) (roomOf (slotAt ss i .state)) n ≡ roomByte (h .undo) (roomOf (slotAt ss i .state)) n
+  old-room i l soft =
+      let room : ℕ = roomOf (slotAt ss i .state) in
+      let has-room : HasRoom ss i room = soft-room ss i soft in
+      let low : room < rooms = d .good .sound .room-most i room l has-room in
+      let not-taken : k ≡ hold.Soft room → ⊥ = λ z. room-taken ss (c .block) k (d .held) room z .1 i l has-room in
+      rooms-alike (made d .undo) (h .undo) room (λ n o. other-room room n low o not-taken)
+
   pub old-undo : (x : Change) → List·Memᴰ x (map plain (h .accepted)) → softOf ss′ (x .number) ≡ true
       → (softOf ss (x .number) ≡ true) × ((i : ℕ) → oldByte ss′ (made d .undo) x i ≡ oldByte ss (h .undo) x i)
-  old-undo x m s = go (slotOf ss (x .number)) refl (sym (ap (softAt ss′) same-slot) ∙ s)
+  old-undo x m s =
+      (room .0, λ n. ap (λ (q : ℕ). roomByte (made d .undo) q (n - x .offset)) (room .1) ∙ bytes (slotOf ss (x .number)) refl (room .0) (n - x .offset))
     where
-      same-slot : slotOf ss′ (x .number) ≡ slotOf ss (x .number)
-      same-slot = slot-old d (x .number) (below-log d x m)
+      room : (softOf ss (x .number) ≡ true) × (roomFor ss′ (x .number) ≡ roomFor ss (x .number))
+      room =
+          room-stays ss ss′ (x .number) (slot-old d (x .number) (below-log d x m))
+          (λ i q. let f = slot-carries ss (x .number) i q in kin d i (f .0) (carries-used ss (x .number) i (f .1))) s
 
-      go : (p : Option ℕ) → slotOf ss (x .number) ≡ p → softAt ss′ (slotOf ss (x .number)) ≡ true
-          → (softOf ss (x .number) ≡ true) × ((i : ℕ) → oldByte ss′ (made d .undo) x i ≡ oldByte ss (h .undo) x i)
-      go none e u = absurd (clash u (ap (softAt ss′) e))
-      go (some i) e u =
-          let f = slot-carries ss (x .number) i e in
-          let soft′ : isSoft (slotAt ss′ i .state) ≡ true = sym (ap (softAt ss′) e) ∙ u in
-          let same : slotAt ss′ i .state ≡ slotAt ss i .state = kin d i (f .0) (carries-used ss (x .number) i (f .1)) .soft soft′ in
-          let soft : isSoft (slotAt ss i .state) ≡ true = sym (ap isSoft same) ∙ soft′ in
-          let room : ℕ = roomOf (slotAt ss i .state) in
-          let has-room : HasRoom ss i room = soft-room ss i soft in
-          let low : room < rooms = d .good .sound .room-most i room (f .0) has-room in
-          let not-taken : k ≡ hold.Soft room → ⊥ = λ z. room-taken ss (c .block) k (d .held) room z .1 i (f .0) has-room in
-          let at-room : roomFor ss′ (x .number) ≡ room = ap (roomAt ss′) (same-slot ∙ e) ∙ ap roomOf same in (
-            ap (softAt ss) e ∙ soft,
-            λ n. ap (λ (q : ℕ). roomByte (made d .undo) q (n - x .offset)) at-room
-                ∙ rooms-alike (made d .undo) (h .undo) room (λ l o. other-room room l low o not-taken) (n - x .offset)
-                ∙ sym (ap (λ (q : ℕ). roomByte (h .undo) q (n - x .offset)) (ap (roomAt ss) e)),
-          )
+      bytes : (p : Option ℕ) → slotOf ss (x .number) ≡ p → softAt ss (slotOf ss (x .number)) ≡ true → (n : ℕ)
+          → roomByte (made d .undo) (roomFor ss (x .number)) n ≡ roomByte (h .undo) (roomFor ss (x .number)) n
+      bytes none e u n = absurd (clash u (ap (softAt ss) e))
+      bytes (some i) e u n =
+          ap (λ (p : Option ℕ). roomByte (made d .undo) (roomAt ss p) n) e
+          ∙ old-room i (slot-carries ss (x .number) i e .0) (sym (ap (softAt ss) e) ∙ u) n
+          ∙ sym (ap (λ (p : Option ℕ). roomByte (h .undo) (roomAt ss p) n) e)
