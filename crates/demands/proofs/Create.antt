@@ -21,7 +21,7 @@ use Rattle.rules.specs.declared.State as rules
 use Rattle.rules.specs.declared.State.the-variants as state
 use Rattle.rules.specs.declared.Slot.{Slot}
 use Rattle.rules.specs.Sizes.{blockStart, slots, rooms, roomStart}
-use Rattle.rules.specs.Slots.{isUsed, roomOf, withState}
+use Rattle.rules.specs.Slots.{isUsed, hasRoom, roomOf, withState}
 use Rattle.rules.specs.Table.{Table, slotAt, used, Sound, HasRoom}
 use Rattle.rules.specs.Create as create
 use Rattle.rules.specs.Create.{Lowest, FreeSlot, FreeRoom, HoldOf, isIn, isNamed, overlaps, befores, patch, turned, turnedState, acceptedSlots, accepted, place, oldBytes, changed, kept}
@@ -68,10 +68,10 @@ turned-kin hold.Hard b s = go (eqb (s .block) b)
     go true = record { used = at (s .state) .0; word = at (s .state) .1; soft = at (s .state) .2; number = refl; block = refl; offset = refl; len = refl; befores = refl }
     go false = kin-self s
 
-pub soft-room : (u : rules.State) → isSoft u ≡ true → u ≡ state.Waiting (hold.Soft (roomOf u))
+pub soft-room : (u : rules.State) → isSoft u ≡ true → hasRoom u (roomOf u) ≡ true
 soft-room state.Free e = absurd (clash e refl)
 soft-room (state.Waiting hold.Hard) e = absurd (clash e refl)
-soft-room (state.Waiting (hold.Soft r)) e = refl
+soft-room (state.Waiting (hold.Soft r)) e = eq-eqb r r refl
 soft-room (state.InFlight k) e = absurd (clash e refl)
 
 module _ (h : History) (g : Good h) (c : create.Change) (j : ℕ) (k : Hold) (low : Lowest slots (FreeSlot (h .table .slots)) j)

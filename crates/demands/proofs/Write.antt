@@ -214,7 +214,9 @@ module _ (h : History) (g : Good h) (lent : List ℕ) (b s : ℕ) (v : WritePass
           (ap (stateAt ss) q ∙ waiting-word (slotAt ss j .state) (w .0), sym (g .link a m j (c .0) (c .1) .block) ∙ eqb-true (slotAt ss j .block) b (w .1))
 
   go-tied : (m n : ℕ) → goAt s (slotOf ss m) ≡ true → Tied ss m n → goAt s (slotOf ss n) ≡ true
-  go-tied m n e d = ap (goAt s) (d .itsIs) ∙ may .closed (d .mine) (sym (ap (goAt s) (d .mineIs)) ∙ e) (d .its) (d .before)
+  go-tied m n e d =
+      ap (goAt s) (d .itsIs)
+      ∙ may .closed (d .mine) (d .its) (sym (ap (goAt s) (d .mineIs)) ∙ e) (slot-carries ss n (d .its) (d .itsIs) .0) (d .before)
 
   -- what is left behind waits on the block and is not in the set
   left-is : (x : Change) → left b goes (world h) x ≡ true → (x .block ≡ b) × (cut.isWaiting (stateAt ss (slotOf ss (x .number))) ≡ true) × (goes x ≡ false)
