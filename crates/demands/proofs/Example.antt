@@ -8,7 +8,7 @@ use mathlib.Core.List.{List, [], _∷_, List·Memᴰ·head}
 use native.Mathlib.Omega.{arith}
 use lib.Dec.{eqb}
 use lib.ListN.{replicate, length-replicate, getD}
-use Rattle.masks.specs.Sets.{bit, has, setBelow}
+use Rattle.masks.specs.Sets.{bit, has, setBelow, someBelow}
 use Rattle.spans.specs.Spans.{splice}
 use Rattle.rules.specs.declared.Hold.the-variants as hold
 use Rattle.rules.specs.Sizes.{imageBytes, undoBytes, blockBytes}
@@ -16,11 +16,12 @@ use Rattle.rules.specs.Table.{slotsFrom}
 use Rattle.rules.specs.Open.{opened}
 use Rattle.rules.specs.Create.{Change, isIn, befores, patch, acceptedSlots, accepted, changed, kept, HoldOf}
 use Rattle.rules.specs.Write.{takenBack, backNumber, backDown, handedOut, sentSlots, sent}
+use Rattle.rules.specs.Rounds.{round, rounds}
 use Rattle.rules.specs.Complete.{landedSlots, completedSlots, completed}
 use Rattle.rules.specs.Calls.{openGranted, createGranted, writeGranted, completeGranted}
 use Rattle.rules.specs.Rows.{Radio}
 use Rattle.rules.proofs.StaysSound.{opened-sound}
-use Rattle.rules.proofs.Computed.{passesBelow, allIssued, lowest-free, hardTest, hard-tested, held-back, room-free, clearIn, hardsStay, round, rounds}
+use Rattle.rules.proofs.Computed.{allIssued, lowest-free, softTest, hard-tested, held-back, room-free}
 use Rattle.rules.proofs.Steps.{Good, Made, Went, Done, afterCreate, afterWrite, afterComplete, inBounds, open-row, create-row, write-row, complete-row}
 use Rattle.demands.specs.History as history
 use Rattle.demands.specs.History.{History, Accepted, Happened, Call, begun, numbersBelow, those}
@@ -78,32 +79,32 @@ abbrev lent : List ℕ
 lent = replicate blockBytes 9
 
 E1 : Made r0 c1 0 hold.Hard
-unfolding slotsFrom inBounds allIssued passesBelow hardTest has bit
+unfolding slotsFrom inBounds allIssued someBelow softTest has bit
 E1 = create-row r0 g0 c1 0 hold.Hard refl (lowest-free (r0 .table .slots) 0 (omega arith) refl refl) (HoldOf.hard (hard-tested (r0 .table .slots) 1 refl))
 
 E2 : Made r1 c2 1 hold.Hard
-unfolding slotsFrom accepted acceptedSlots patch befores isIn setBelow inBounds allIssued passesBelow hardTest has bit
+unfolding slotsFrom accepted acceptedSlots patch befores isIn setBelow inBounds allIssued someBelow softTest has bit
 E2 = create-row r1 (E1 .1) c2 1 hold.Hard refl (lowest-free (r1 .table .slots) 1 (omega arith) refl refl) (HoldOf.hard (hard-tested (r1 .table .slots) 2 refl))
 
 E3 : Made r2 c3 2 (hold.Soft 0)
-unfolding slotsFrom accepted acceptedSlots patch befores isIn setBelow inBounds allIssued passesBelow has bit
+unfolding slotsFrom accepted acceptedSlots patch befores isIn setBelow inBounds allIssued someBelow has bit
 E3 =
     create-row r2 (E2 .1) c3 2 (hold.Soft 0) refl (lowest-free (r2 .table .slots) 2 (omega arith) refl refl)
     (HoldOf.soft (held-back (r2 .table .slots) 1 1 0 (omega arith) (omega arith) refl)
     (record { within = omega arith; holds = room-free (r2 .table .slots) 0 refl; least = λ i l. absurd (omega arith) }))
 
 E4 : Made r3 c4 3 hold.Hard
-unfolding slotsFrom accepted acceptedSlots patch befores isIn setBelow inBounds allIssued passesBelow hardTest has bit
+unfolding slotsFrom accepted acceptedSlots patch befores isIn setBelow inBounds allIssued someBelow softTest has bit
 E4 = create-row r3 (E3 .1) c4 3 hold.Hard refl (lowest-free (r3 .table .slots) 3 (omega arith) refl refl) (HoldOf.hard (hard-tested (r3 .table .slots) 3 refl))
 
 -- block 1 sends patch 1 alone and leaves patch 3 behind; block 3 sends patch 4
 E5 : Went r4 lent 1 1
-unfolding slotsFrom accepted acceptedSlots patch befores isIn setBelow passesBelow clearIn hardsStay round rounds has bit
-E5 = write-row r4 (E4 .1) 1 lent (omega arith) refl 2 refl refl refl 1 0 refl refl
+unfolding slotsFrom accepted acceptedSlots patch befores isIn setBelow someBelow round rounds has bit
+E5 = write-row r4 (E4 .1) 1 lent (omega arith) refl 2 1 refl refl refl 0 refl
 
 E6 : Went r5 lent 3 8
-unfolding slotsFrom accepted acceptedSlots patch befores isIn setBelow sent sentSlots passesBelow clearIn hardsStay round rounds has bit
-E6 = write-row r5 (E5 .1) 3 lent (omega arith) refl 1 refl refl refl 8 3 refl refl
+unfolding slotsFrom accepted acceptedSlots patch befores isIn setBelow sent sentSlots someBelow round rounds has bit
+E6 = write-row r5 (E5 .1) 3 lent (omega arith) refl 1 8 refl refl refl 3 refl
 
 -- the write of block 1 is told to be there, and block 2 sends patch 2
 E7 : Done r6 1
@@ -112,8 +113,8 @@ E7 = complete-row r6 (E6 .1) 1 0 (omega arith) (omega arith) refl
 
 E8 : Went r7 lent 2 2
 unfolding slotsFrom accepted acceptedSlots patch befores isIn setBelow sent sentSlots
-    completed completedSlots landedSlots passesBelow clearIn hardsStay round rounds has bit
-E8 = write-row r7 (E7 .1) 2 lent (omega arith) refl 1 refl refl refl 2 1 refl refl
+    completed completedSlots landedSlots someBelow round rounds has bit
+E8 = write-row r7 (E7 .1) 2 lent (omega arith) refl 1 2 refl refl refl 1 refl
 
 -- ---- the history
 

@@ -5,14 +5,15 @@ use mathlib.Core.Path.{_≡_, refl, _∙_}
 use mathlib.Core.Bool.{Bool, true, false}
 use mathlib.Core.List.{List}
 use mathlib.Core.Option.{Option, none, some}
+use borrow.Author.Tests.{eq-eqb}
 use Rattle.masks.specs.Sets.{has}
 use Rattle.masks.proofs.Decided.{clash}
 use Rattle.rules.specs.declared.Hold.the-variants as hold
 use Rattle.rules.specs.declared.State as rules
 use Rattle.rules.specs.declared.State.the-variants as state
 use Rattle.rules.specs.declared.Slot.{Slot}
-use Rattle.rules.specs.Slots.{isUsed, isWaiting, isInFlight, isHard, roomOf}
-use Rattle.rules.specs.Table.{slotAt, HasRoom}
+use Rattle.rules.specs.Slots.{isWaiting, isInFlight, isHard, hasRoom, roomOf}
+use Rattle.rules.specs.Table.{slotAt}
 use Rattle.cut.specs.World as cut
 use Rattle.cut.specs.World.{State, waiting, inFlight, committed}
 use Rattle.demands.proofs.Lookup.{slotOf}
@@ -24,19 +25,16 @@ stateWord (state.Waiting h) = waiting
 stateWord (state.InFlight k) = inFlight
 
 -- does it have a room?
-abbrev pub isSoft : rules.State → Bool
-isSoft state.Free = false
-isSoft (state.Waiting hold.Hard) = false
-isSoft (state.Waiting (hold.Soft r)) = true
-isSoft (state.InFlight k) = false
+abbrev pub roomed : rules.State → Bool
+roomed u = hasRoom u (roomOf u)
 
 abbrev pub stateAt : List Slot → Option ℕ → State
 stateAt ss none = committed
 stateAt ss (some j) = stateWord (slotAt ss j .state)
 
-abbrev pub softAt : List Slot → Option ℕ → Bool
-softAt ss none = false
-softAt ss (some j) = isSoft (slotAt ss j .state)
+abbrev pub roomedAt : List Slot → Option ℕ → Bool
+roomedAt ss none = false
+roomedAt ss (some j) = roomed (slotAt ss j .state)
 
 abbrev pub roomAt : List Slot → Option ℕ → ℕ
 roomAt ss none = 0
@@ -46,8 +44,8 @@ roomAt ss (some j) = roomOf (slotAt ss j .state)
 abbrev pub wordOf : List Slot → ℕ → State
 wordOf ss n = stateAt ss (slotOf ss n)
 
-abbrev pub softOf : List Slot → ℕ → Bool
-softOf ss n = softAt ss (slotOf ss n)
+abbrev pub roomedOf : List Slot → ℕ → Bool
+roomedOf ss n = roomedAt ss (slotOf ss n)
 
 abbrev pub roomFor : List Slot → ℕ → ℕ
 roomFor ss n = roomAt ss (slotOf ss n)
@@ -100,11 +98,6 @@ word-flying state.Free e = absurd (let z : _≡_ {A = ℕ} 0 1 = cc in omega ari
 word-flying (state.Waiting h) e = absurd (let z : _≡_ {A = ℕ} 0 1 = cc in omega arith)
 word-flying (state.InFlight k) e = refl
 
-pub waiting-used : (u : rules.State) → isWaiting u ≡ true → isUsed u ≡ true
-waiting-used state.Free e = e
-waiting-used (state.Waiting h) e = refl
-waiting-used (state.InFlight k) e = refl
-
 -- the word of `cut` for a waiting state is that of the slot's
 pub same-word : (u : rules.State) → cut.isWaiting (stateWord u) ≡ isWaiting u
 unfolding cut.isWaiting
@@ -112,26 +105,12 @@ same-word state.Free = refl
 same-word (state.Waiting h) = refl
 same-word (state.InFlight k) = refl
 
-pub soft-used : (u : rules.State) → isSoft u ≡ true → isUsed u ≡ true
-soft-used state.Free e = e
-soft-used (state.Waiting h) e = refl
-soft-used (state.InFlight k) e = refl
-
--- a waiting patch that is not hard is soft, and has a room
-pub not-hard : (u : rules.State) → isWaiting u ≡ true → (isHard u ≡ true → ⊥) → isSoft u ≡ true
+-- a waiting patch that is not hard has a room
+pub not-hard : (u : rules.State) → isWaiting u ≡ true → (isHard u ≡ true → ⊥) → roomed u ≡ true
 not-hard state.Free e n = e
 not-hard (state.Waiting hold.Hard) e n = absurd (n refl)
-not-hard (state.Waiting (hold.Soft r)) e n = refl
+not-hard (state.Waiting (hold.Soft r)) e n = eq-eqb r r refl
 not-hard (state.InFlight k) e n = e
-
-pub soft-room : (ss : List Slot) (i : ℕ) → isSoft (slotAt ss i .state) ≡ true → HasRoom ss i (roomOf (slotAt ss i .state))
-soft-room ss i = go (slotAt ss i .state)
-  where
-    go : (u : rules.State) → isSoft u ≡ true → u ≡ state.Waiting (hold.Soft (roomOf u))
-    go state.Free e = absurd (clash e refl)
-    go (state.Waiting hold.Hard) e = absurd (clash e refl)
-    go (state.Waiting (hold.Soft r)) e = refl
-    go (state.InFlight k) e = absurd (clash e refl)
 
 -- whatever is out is in flight
 pub out-flies : (s : State) → isOut s ≡ true → s ≡ inFlight

@@ -4,8 +4,6 @@ use mathlib.Core.Path.{_≡_, refl, sym, ap, ap₂, subst, _∙_}
 use mathlib.Core.Bool.{true}
 use mathlib.Core.List.{List}
 use native.Mathlib.Omega.{arith}
-use Rattle.masks.proofs.Decided.{clash}
-use Rattle.rules.specs.declared.State.{State}
 use Rattle.rules.specs.declared.State.the-variants as state
 use Rattle.rules.specs.declared.AskAnswer.{AskAnswer}
 use Rattle.rules.specs.Slots.{isWaiting, isInFlight}
@@ -17,6 +15,7 @@ use Rattle.rules.specs.Calls.{Creation, createGranted, Accepts, Writing,
 use Rattle.rules.proofs.Cases.{passed}
 use Rattle.rules.proofs.Lowest.{lowest-one, hold-one}
 use Rattle.rules.proofs.Largest.{largest-one}
+use Rattle.rules.proofs.Words.{not-both}
 
 pub accepts-one : (t : Table) (image undo : List ℕ) (c : Change) (o p : Creation) → Accepts t image undo c o → Accepts t image undo c p → o ≡ p
 accepts-one t image undo c o p a b =
@@ -25,12 +24,6 @@ accepts-one t image undo c o p a b =
 pub sends-one : (t : Table) (image undo : List ℕ) (b : ℕ) (o p : Writing) → Sends t image undo b o → Sends t image undo b p → o ≡ p
 sends-one t image undo b o p x y =
     x .whole ∙ ap (writeGranted t image undo b) (largest-one (x .set) (y .set) (x .largest) (y .largest)) ∙ sym (y .whole)
-
--- a patch that waits is not in flight
-not-both : (s : State) → isWaiting s ≡ true → isInFlight s ≡ true → ⊥
-not-both state.Free w f = clash w refl
-not-both (state.Waiting h) w f = clash f refl
-not-both (state.InFlight k) w f = clash w refl
 
 -- the number of a waiting patch is not that of one in flight
 apart : (t : Table) (n i j : ℕ) → InSlot t n i → InSlot t n j → isWaiting (slotAt (t .slots) i .state) ≡ true → isInFlight (slotAt (t .slots) j .state) ≡ true → Sound t → ⊥

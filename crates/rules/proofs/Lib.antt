@@ -3,8 +3,10 @@ pub mod Cases
 pub mod Outcomes
 pub mod SlotsBy
 pub mod After
+pub mod Words
 pub mod Lowest
 pub mod Largest
+pub mod Rounds
 pub mod TakenBack
 pub mod Pins
 pub mod Refused

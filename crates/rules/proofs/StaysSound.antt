@@ -17,7 +17,7 @@ use Rattle.rules.specs.declared.State.{State}
 use Rattle.rules.specs.declared.State.the-variants as state
 use Rattle.rules.specs.declared.Slot.{Slot}
 use Rattle.rules.specs.Sizes.{blocks, blockBytes, rooms, slots, mostBytes, lastNumber}
-use Rattle.rules.specs.Slots.{isUsed, freeSlot, withState}
+use Rattle.rules.specs.Slots.{isUsed, hasRoom, freeSlot, withState}
 use Rattle.rules.specs.Table.{Table, slotAt, slotsBy, withSlots, withNext, used, fliesOn, HasRoom, Sound}
 use Rattle.rules.specs.Open.{opened}
 use Rattle.rules.specs.Create.{Change, Lowest, FreeSlot, FreeRoom, HoldOf, isNamed, overlaps, befores, patch}
@@ -26,6 +26,7 @@ use Rattle.rules.specs.Write.{sentState, sentSlot, sentSlots, sent}
 use Rattle.rules.specs.Complete.{withoutBefores, landing, completedSlots, completed}
 use Rattle.rules.proofs.After.{accepted-at, sent-at, completed-at, befores-at}
 use Rattle.rules.proofs.SlotsBy.{slot-by}
+use Rattle.rules.proofs.Words.{has-room-used, room-is, turned-used, turned-room, sent-used, sent-room}
 use Rattle.rules.proofs.Granted.{CreatePassed}
 
 -- the slot n is the slot s, but for its state, where it has no new room, and for befores that it has lost
@@ -36,20 +37,16 @@ pub record Like (n s : Slot) : Type 0 where
   pub offset : n .offset ≡ s .offset
   pub len : n .len ≡ s .len
   pub befores : Sub (n .befores) (s .befores)
-  pub room : (r : ℕ) → n .state ≡ state.Waiting (hold.Soft r) → s .state ≡ state.Waiting (hold.Soft r)
+  pub room : (r : ℕ) → hasRoom (n .state) r ≡ true → hasRoom (s .state) r ≡ true
 
 pub like-self : (s : Slot) → Like s s
 like-self s = record { used = refl; number = refl; block = refl; offset = refl; len = refl; befores = λ i h. h; room = λ r e. e }
 
 -- a slot with another state, where that is in use as before and has no new room
 state-like : (b : Bool) (u : State) (s : Slot) → isUsed u ≡ isUsed (s .state)
-    → ((r : ℕ) → u ≡ state.Waiting (hold.Soft r) → s .state ≡ state.Waiting (hold.Soft r)) → Like (cond b (withState u s) s) s
+    → ((r : ℕ) → hasRoom u r ≡ true → hasRoom (s .state) r ≡ true) → Like (cond b (withState u s) s) s
 state-like true u s e f = record { used = e; number = refl; block = refl; offset = refl; len = refl; befores = λ i h. h; room = f }
 state-like false u s e f = like-self s
-
--- a patch with a room is in use
-pub roomed-used : (ss : List Slot) (i r : ℕ) → HasRoom ss i r → used ss i ≡ true
-roomed-used ss i r e = ap isUsed e
 
 -- slots that are each free, or as they were but for state and befores, stay sound
 module _ (t : Table) (s : Sound t) (ss : List Slot)
@@ -76,8 +73,8 @@ module _ (t : Table) (s : Sound t) (ss : List Slot)
     ends = λ i l u. let k = like i l u in omega (arith, s .ends i l (was-used i l u), k .offset, k .len);
     befores-used = followed;
     befores-other = λ i l u h. s .befores-other i l (was-used i l u) (like i l u .befores i h);
-    room-most = λ i r l h. s .room-most i r l (like i l (roomed-used ss i r h) .room r h);
-    rooms-differ = λ i j r l m h k. s .rooms-differ i j r l m (like i l (roomed-used ss i r h) .room r h) (like j m (roomed-used ss j r k) .room r k);
+    room-most = λ i r l h. s .room-most i r l (like i l (has-room-used ss i r h) .room r h);
+    rooms-differ = λ i j r l m h k. s .rooms-differ i j r l m (like i l (has-room-used ss i r h) .room r h) (like j m (has-room-used ss j r k) .room r k);
   }
 
 -- ---- open
@@ -97,8 +94,8 @@ opened-sound n a b = record {
   ends = λ i l u. absurd (none i l u);
   befores-used = λ i j l m u h. absurd (none i l u);
   befores-other = λ i l u h. none i l u;
-  room-most = λ i r l h. absurd (none i l (roomed-used (slotsBy (λ i. freeSlot)) i r h));
-  rooms-differ = λ i j r l m h k. absurd (none i l (roomed-used (slotsBy (λ i. freeSlot)) i r h));
+  room-most = λ i r l h. absurd (none i l (has-room-used (slotsBy (λ i. freeSlot)) i r h));
+  rooms-differ = λ i j r l m h k. absurd (none i l (has-room-used (slotsBy (λ i. freeSlot)) i r h));
 }
   where
     none : (i : ℕ) → i < slots → used (slotsBy (λ i. freeSlot)) i ≡ true → ⊥
@@ -106,18 +103,8 @@ opened-sound n a b = record {
 
 -- ---- write
 
-sent-used : (u : State) → isUsed (sentState u) ≡ isUsed u
-sent-used state.Free = refl
-sent-used (state.Waiting h) = refl
-sent-used (state.InFlight k) = refl
-
-sent-roomless : (u : State) (r : ℕ) → sentState u ≡ state.Waiting (hold.Soft r) → u ≡ state.Waiting (hold.Soft r)
-sent-roomless state.Free r e = e
-sent-roomless (state.Waiting h) r e = absurd (let z : _≡_ {A = ℕ} 0 1 = cc in omega arith)
-sent-roomless (state.InFlight k) r e = e
-
-sent-like : (goes : Bool) (s : Slot) → Like (sentSlot goes s) s
-sent-like goes s = state-like goes (sentState (s .state)) s (sent-used (s .state)) (sent-roomless (s .state))
+pub sent-like : (goes : Bool) (s : Slot) → Like (sentSlot goes s) s
+sent-like goes s = state-like goes (sentState (s .state)) s (sent-used (s .state)) (sent-room (s .state))
 
 pub sent-sound : (t : Table) (set : ℕ) → Sound t → Sound (sent t set)
 unfolding sent
@@ -153,7 +140,7 @@ remaining-was ss b s k h =
     let w = and-true (has (s .befores) k) (not (fliesOn ss b k)) (sym (befores-at ss b s k l) ∙ h) in
     (w .0, not-true (fliesOn ss b k) (w .1))
 
-remaining-like : (ss : List Slot) (b : ℕ) (s : Slot) → Like (withoutBefores (landing ss b) s) s
+pub remaining-like : (ss : List Slot) (b : ℕ) (s : Slot) → Like (withoutBefores (landing ss b) s) s
 remaining-like ss b s =
     record { used = refl; number = refl; block = refl; offset = refl; len = refl; befores = λ k h. remaining-was ss b s k h .0; room = λ r e. e }
 
@@ -194,7 +181,7 @@ pub record Fit (t : Table) (p : Slot) : Type 0 where
   pub len-most : p .len ≤ mostBytes
   pub ends : p .offset + p .len ≤ blockBytes
   pub befores : (k : ℕ) → k < slots → has (p .befores) k ≡ true → isUsed (slotAt (t .slots) k .state) ≡ true
-  pub room : (r : ℕ) → p .state ≡ state.Waiting (hold.Soft r) → (r < rooms) × FreeRoom (t .slots) r
+  pub room : (r : ℕ) → hasRoom (p .state) r ≡ true → (r < rooms) × FreeRoom (t .slots) r
 
 -- slots that are as they were, but for a patch that fits in one that was free, stay sound
 module _ (t : Table) (s : Sound t) (ss : List Slot) (j : ℕ) (p : Slot) (jl : j < slots) (free : used (t .slots) j ≡ false) (fit : Fit t p)
@@ -237,25 +224,15 @@ module _ (t : Table) (s : Sound t) (ss : List Slot) (j : ℕ) (p : Slot) (jl : j
         (λ d u h. still-used k m (s .befores-used i k l m u h));
     befores-other = λ i l.
         each (λ i n. isUsed (n .state) ≡ true → has (n .befores) i ≡ true → ⊥) i l (λ u h. clash (fit .befores j jl h) free) (λ d u. s .befores-other i l u);
-    room-most = λ i r l. each (λ i n. n .state ≡ state.Waiting (hold.Soft r) → r < rooms) i l (λ h. fit .room r h .0) (λ d h. s .room-most i r l h);
+    room-most = λ i r l. each (λ i n. hasRoom (n .state) r ≡ true → r < rooms) i l (λ h. fit .room r h .0) (λ d h. s .room-most i r l h);
     rooms-differ = λ i k r l m.
-        each (λ i n. n .state ≡ state.Waiting (hold.Soft r) → HasRoom ss k r → i ≡ k) i l
-        (λ h. each (λ k n. n .state ≡ state.Waiting (hold.Soft r) → j ≡ k) k m (λ g. refl) (λ d g. absurd (fit .room r h .1 k m g)))
-        (λ d h. each (λ k n. n .state ≡ state.Waiting (hold.Soft r) → i ≡ k) k m (λ g. absurd (fit .room r g .1 i l h)) (λ c g. s .rooms-differ i k r l m h g));
+        each (λ i n. hasRoom (n .state) r ≡ true → HasRoom ss k r → i ≡ k) i l
+        (λ h. each (λ k n. hasRoom (n .state) r ≡ true → j ≡ k) k m (λ g. refl) (λ d g. absurd (fit .room r h .1 k m g)))
+        (λ d h. each (λ k n. hasRoom (n .state) r ≡ true → i ≡ k) k m (λ g. absurd (fit .room r g .1 i l h)) (λ c g. s .rooms-differ i k r l m h g));
   }
 
-turned-used : (u : State) → isUsed (turnedState u) ≡ isUsed u
-turned-used state.Free = refl
-turned-used (state.Waiting h) = refl
-turned-used (state.InFlight k) = refl
-
-turned-roomless : (u : State) (r : ℕ) → turnedState u ≡ state.Waiting (hold.Soft r) → u ≡ state.Waiting (hold.Soft r)
-turned-roomless state.Free r e = e
-turned-roomless (state.Waiting h) r e = absurd (let z : _≡_ {A = ℕ} 0 1 = cc in omega arith)
-turned-roomless (state.InFlight k) r e = e
-
-turned-like : (h : Hold) (b : ℕ) (s : Slot) → Like (turned h b s) s
-turned-like hold.Hard b s = state-like (eqb (s .block) b) (turnedState (s .state)) s (turned-used (s .state)) (turned-roomless (s .state))
+pub turned-like : (h : Hold) (b : ℕ) (s : Slot) → Like (turned h b s) s
+turned-like hold.Hard b s = state-like (eqb (s .block) b) (turnedState (s .state)) s (turned-used (s .state)) (turned-room (s .state))
 turned-like (hold.Soft r) b s = like-self s
 
 -- a slot among the befores of a new patch is in use
@@ -267,9 +244,10 @@ befores-are-used ss c k h =
     (or-true (isNamed ss c k) (overlaps ss c k) (sym (has-set p k (has-slot (setOf p) k (set-lt p) h)) ∙ h))
 
 -- the room of a new patch is a free one
-new-room : (ss : List Slot) (b : ℕ) (h : Hold) → HoldOf ss b h → (r : ℕ) → state.Waiting h ≡ state.Waiting (hold.Soft r) → (r < rooms) × FreeRoom ss r
-new-room ss b h (HoldOf.hard w) r e = absurd (let z : _≡_ {A = ℕ} 0 1 = cc in omega arith)
-new-room ss b h (HoldOf.soft {r = q} w low) r e = let z : q ≡ r = cc in subst (λ (x : ℕ). (x < rooms) × FreeRoom ss x) z (low .within, low .holds)
+new-room : (ss : List Slot) (b : ℕ) (h : Hold) → HoldOf ss b h → (r : ℕ) → hasRoom (state.Waiting h) r ≡ true → (r < rooms) × FreeRoom ss r
+new-room ss b h (HoldOf.hard w) r e = absurd (clash e refl)
+new-room ss b h (HoldOf.soft {r = q} w low) r e =
+    subst (λ (x : ℕ). (x < rooms) × FreeRoom ss x) (room-is (state.Waiting (hold.Soft q)) r e) (low .within, low .holds)
 
 pub accepted-sound : (t : Table) (image undo : List ℕ) (c : Change) (j : ℕ) (h : Hold) → CreatePassed t image undo c → Lowest slots (FreeSlot (t .slots)) j
     → HoldOf (t .slots) (c .block) h → Sound (accepted t c j h)

@@ -19,7 +19,7 @@ pub record MayGo (ss : List Slot) (b s : ℕ) : Type 0 where
   pub set : s < 2 ^ slots
   pub within : (i : ℕ) → has s i ≡ true → waitsOn ss b i ≡ true
   -- each before of each member is in it
-  pub closed : (i : ℕ) → has s i ≡ true → Sub (slotAt ss i .befores) s
+  pub closed : (i k : ℕ) → has s i ≡ true → k < slots → has (slotAt ss i .befores) k ≡ true → has s k ≡ true
   -- if it is not empty, all hard patches of the block are in it
   pub hards : (i : ℕ) → has s i ≡ true → (h : ℕ) → h < slots → hardOn ss b h ≡ true → has s h ≡ true
 

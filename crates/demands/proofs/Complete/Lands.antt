@@ -20,10 +20,10 @@ use Rattle.demands.proofs.Log.{plain, on-log}
 use Rattle.demands.proofs.Views.{view}
 use Rattle.demands.proofs.Notes.{AllWhole, some-written, written-alike, mem-left}
 use Rattle.demands.proofs.Lookup.{slotOf, slot-carries}
-use Rattle.demands.proofs.Words.{stateAt, softAt, wordOf, softOf, Tied, tie-stays}
+use Rattle.demands.proofs.Words.{stateAt, roomedAt, wordOf, roomedOf, Tied, tie-stays}
 use Rattle.demands.proofs.Linked.{room-stays}
 use Rattle.demands.proofs.Radio.{roomByte, oldByte, world, Good}
-use Rattle.demands.proofs.Complete.Slots.{settledIf, to-it, elsewhere, landed, Fate, fate, stays-at, kin-at, state-after}
+use Rattle.demands.proofs.Complete.Slots.{settledIf, to-it, elsewhere, landed, Fate, fate, stays-at, like-at, state-after}
 
 module _ {h : History} (g : Good h) (b : ℕ) where
   abbrev ss : List Slot
@@ -34,16 +34,16 @@ module _ {h : History} (g : Good h) (b : ℕ) where
 
   -- ---- undo data and ties
 
-  old-undo : (x : Change) → softOf ss′ (x .number) ≡ true
-      → (softOf ss (x .number) ≡ true) × ((i : ℕ) → oldByte ss′ (h .undo) x i ≡ oldByte ss (h .undo) x i)
+  old-undo : (x : Change) → roomedOf ss′ (x .number) ≡ true
+      → (roomedOf ss (x .number) ≡ true) × ((i : ℕ) → oldByte ss′ (h .undo) x i ≡ oldByte ss (h .undo) x i)
   old-undo x s = pick (fate g b (x .number))
     where
-      pick : Fate g b (x .number) → (softOf ss (x .number) ≡ true) × ((i : ℕ) → oldByte ss′ (h .undo) x i ≡ oldByte ss (h .undo) x i)
-      pick (Fate.gone e f) = absurd (clash s (ap (softAt ss′) f))
-      pick (Fate.lost j e l f) = absurd (clash s (ap (softAt ss′) f))
+      pick : Fate g b (x .number) → (roomedOf ss (x .number) ≡ true) × ((i : ℕ) → oldByte ss′ (h .undo) x i ≡ oldByte ss (h .undo) x i)
+      pick (Fate.gone e f) = absurd (clash s (ap (roomedAt ss′) f))
+      pick (Fate.lost j e l f) = absurd (clash s (ap (roomedAt ss′) f))
       pick (Fate.kept j e f) =
           let same = f ∙ sym e in
-          let r = room-stays ss ss′ (x .number) same (λ i q. kin-at g b (x .number) i (same ∙ q)) s in
+          let r = room-stays ss ss′ (x .number) same (λ i q. like-at g b (x .number) i (same ∙ q)) s in
           (r .0, λ i. ap (λ (q : ℕ). roomByte (h .undo) q (i - x .offset)) (r .1))
 
   old-ties : (m n : ℕ) → wordOf ss′ m ≢ committed → Tied ss m n → (wordOf ss′ n ≡ committed) ⊎ Tied ss′ m n

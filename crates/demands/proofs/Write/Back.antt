@@ -25,15 +25,16 @@ use Rattle.cut.specs.World.{left, putBack, takeBack}
 use Rattle.cut.proofs.Facts.{carry-inside}
 use Rattle.demands.specs.History.{History, Accepted}
 use Rattle.demands.specs.Demand3.{Earlier, written}
+use Rattle.rules.proofs.Words.{waiting-used}
 use Rattle.demands.proofs.Log.{plain, Numbered, first-least, once-oldest}
 use Rattle.demands.proofs.Views.{view, view-in, view-past, covers-of, inside-of}
 use Rattle.demands.proofs.Notes.{Whole, whole, view-written}
 use Rattle.demands.proofs.Lookup.{slotOf, carries-used, carries-number, carries-of, slot-carries, nowhere}
-use Rattle.demands.proofs.Words.{roomAt, waiting-used, soft-room}
+use Rattle.demands.proofs.Words.{roomAt}
 use Rattle.demands.proofs.Linked.{Range, Has}
 use Rattle.demands.proofs.Radio.{roomByte, room-byte, oldByte, world}
 use Rattle.demands.proofs.Write.Slots.{Sending, writ, goes}
-use Rattle.demands.proofs.Write.Left.{behind, isLeft, behind-waits, behind-soft, left-slot, left-nowhere, left-one, joined-stays}
+use Rattle.demands.proofs.Write.Left.{behind, isLeft, behind-waits, behind-roomed, left-slot, left-nowhere, left-one, joined-stays}
 
 -- the part of a log that starts at some place of it
 record Since (l log : List Accepted) : Type 0 where
@@ -63,7 +64,7 @@ module _ {h : History} {b s : ℕ} (d : Sending h b s) where
 
     room-low : room < rooms
     unfolding room
-    room-low = d .good .sound .room-most j (roomOf (slotAt ss j .state)) (mine .0) (soft-room ss j (behind-soft d j (mine .0) e))
+    room-low = d .good .sound .room-most j (roomOf (slotAt ss j .state)) (mine .0) (behind-roomed d j (mine .0) e)
 
     old : List ℕ
     old = part (h .undo) (roomStart room) (slotAt ss j .len)

@@ -16,11 +16,11 @@ use Rattle.demands.proofs.Log.{on-log}
 use Rattle.demands.proofs.Views.{view, inside-of}
 use Rattle.demands.proofs.Notes.{whole, view-written}
 use Rattle.demands.proofs.Lookup.{slotOf, slot-carries}
-use Rattle.demands.proofs.Words.{wordOf, softOf, Tied, tie-stays}
+use Rattle.demands.proofs.Words.{wordOf, roomedOf, Tied, tie-stays}
 use Rattle.demands.proofs.Linked.{room-stays}
 use Rattle.demands.proofs.Radio.{roomByte, oldByte, world, none-out}
-use Rattle.demands.proofs.Write.Slots.{Sending, writ, gone, may, goAt, goes, kin, befores-stay, slot-here, go-state, stay-state, members}
-use Rattle.demands.proofs.Write.Left.{left-soft}
+use Rattle.demands.proofs.Write.Slots.{Sending, writ, gone, may, goAt, goes, like, befores-stay, slot-here, go-state, stay-state, members}
+use Rattle.demands.proofs.Write.Left.{left-roomed}
 use Rattle.demands.proofs.Write.Back.{whole-writ, bytes}
 
 module _ {h : History} {b s : ℕ} (d : Sending h b s) where
@@ -31,13 +31,15 @@ module _ {h : History} {b s : ℕ} (d : Sending h b s) where
   ss′ = gone d .table .slots
 
   go-tied : (m n : ℕ) → goAt s (slotOf ss m) ≡ true → Tied ss m n → goAt s (slotOf ss n) ≡ true
-  go-tied m n e t = ap (goAt s) (t .itsIs) ∙ may d .closed (t .mine) (sym (ap (goAt s) (t .mineIs)) ∙ e) (t .its) (t .before)
+  go-tied m n e t =
+      let goes = sym (ap (goAt s) (t .mineIs)) ∙ e in
+      ap (goAt s) (t .itsIs) ∙ may d .closed (t .mine) (t .its) goes (slot-carries ss n (t .its) (t .itsIs) .0) (t .before)
 
-  old-undo : (x : Change) → softOf ss′ (x .number) ≡ true
-      → (softOf ss (x .number) ≡ true) × ((i : ℕ) → oldByte ss′ (h .undo) x i ≡ oldByte ss (h .undo) x i)
+  old-undo : (x : Change) → roomedOf ss′ (x .number) ≡ true
+      → (roomedOf ss (x .number) ≡ true) × ((i : ℕ) → oldByte ss′ (h .undo) x i ≡ oldByte ss (h .undo) x i)
   old-undo x e =
       let n = x .number in
-      let r = room-stays ss ss′ n (slot-here d n) (λ j q. kin d j (slot-carries ss n j q .0)) e in
+      let r = room-stays ss ss′ n (slot-here d n) (λ j q. like d j (slot-carries ss n j q .0)) e in
       (r .0, λ i. ap (λ (q : ℕ). roomByte (h .undo) q (i - x .offset)) (r .1))
 
   old-ties : (m n : ℕ) → Tied ss m n → Tied ss′ m n
@@ -59,7 +61,7 @@ module _ {h : History} {b s : ℕ} (d : Sending h b s) where
     log = refl;
     goes = on-log (h .accepted) (λ x. goes d x ≡ true → (wordOf ss (x .number) ≡ waiting) × (x .block ≡ b)) (members d);
     goTied = λ y x my mx e t. inr (go-tied (y .number) (x .number) e t);
-    leftKept = on-log (h .accepted) (λ x. left b (goes d) (world h) x ≡ true → softOf ss (x .number) ≡ true) (left-soft d);
+    leftKept = on-log (h .accepted) (λ x. left b (goes d) (world h) x ≡ true → roomedOf ss (x .number) ≡ true) (left-roomed d);
     free = on-log (h .accepted) (λ x. x .block ≡ b → wordOf ss (x .number) ≢ inFlight) (none-out h (d .good) b (d .passed .none-flies));
     bytes = bytes d;
     others = others;
