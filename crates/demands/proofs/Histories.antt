@@ -3,7 +3,7 @@ use Prim.Native.Nat.{ℕ}
 use native.Mathlib.Omega.{arith}
 use native.Mathlib.Decide.{ℕ-discrete}
 use mathlib.Core.Path.{_≡_, refl, sym, ap, subst}
-use mathlib.Core.List.{List, List·Memᴰ·not-nil}
+use mathlib.Core.List.{List, [], List·Memᴰ·not-nil}
 use lib.ListN.{length}
 use Rattle.rules.specs.Sizes.{imageBytes}
 use Rattle.rules.specs.Table.{Table}
@@ -18,10 +18,11 @@ use Rattle.rules.proofs.SoundCalls.{open-sound}
 use Rattle.cut.proofs.Core.{open-invariant}
 use Rattle.demands.specs.History.{History, Call, Happened, begun, afterCreate, afterWrite, afterComplete}
 use Rattle.demands.specs.Demand3.{written, timesSent}
+use Rattle.demands.proofs.Log.{Numbered, oldest-in, newer-in}
 use Rattle.demands.proofs.Radio.{Good}
-use Rattle.demands.proofs.Create.{created-good}
-use Rattle.demands.proofs.Write.{gone-good}
-use Rattle.demands.proofs.Complete.{landed-good}
+use Rattle.demands.proofs.Create.Leaves.{created-good}
+use Rattle.demands.proofs.Write.Leaves.{gone-good}
+use Rattle.demands.proofs.Complete.Leaves.{landed-good}
 
 -- ---- open
 
@@ -36,10 +37,14 @@ begun-good : (n : ℕ) (o : Opening) (store undo : List ℕ) → Opens n o → l
 unfolding begun written timesSent
 begun-good n o store undo p e = record {
   sound = open-sound n o p;
-  counted = let m = opened-at n o p in let f : o .table .first ≡ m .0 = ap (λ (t : Table). t .first) (m .1) in let x : o .table .next ≡ m .0 = ap (λ (t : Table). t .next) (m .1) in omega arith;
-  numbers = tt;
-  link = λ a m. absurd (List·Memᴰ·not-nil m);
-  older = λ a m. absurd (List·Memᴰ·not-nil m);
+  numbers = let m = opened-at n o p in subst (λ (t : Table). Numbered (t .first) [] (t .next)) (sym (m .1)) Numbered.begins;
+  older = tt;
+  linked = record {
+    block = λ a m. absurd (List·Memᴰ·not-nil m);
+    range = λ a m. absurd (List·Memᴰ·not-nil (oldest-in m));
+    single = λ i l e y x z. absurd (List·Memᴰ·not-nil (newer-in z));
+    told = λ a m. absurd (List·Memᴰ·not-nil m);
+  };
   within = λ a m. absurd (List·Memᴰ·not-nil m);
   image-whole = e;
   opening-whole = e;
@@ -64,7 +69,7 @@ module _ (h : History) (g : Good h) where
           let a = p .grant z in
           let f = subst (First (createCases (h .table) (h .image) (h .undo) c)) z (p .first) in
           subst (λ (x : Creation). Good (afterCreate h c x)) (sym (a .whole))
-          (created-good h g c (a .slot) (a .hold) (a .lowest) (a .hard-or-soft) (create-passed (h .table) (h .image) (h .undo) c f))
+          (created-good (record { good = g; lowest = a .lowest; held = a .hard-or-soft; passed = create-passed (h .table) (h .image) (h .undo) c f }))
 
   -- ---- write
   write-good : (b : ℕ) (lent : List ℕ) (o : Writing) → Writes (h .table) (h .image) (h .undo) lent b o → Good (afterWrite h b o)
@@ -76,7 +81,8 @@ module _ (h : History) (g : Good h) where
       go (yes z) =
           let a = p .grant z in
           let f = subst (First (writeCases (h .table) (h .image) (h .undo) lent b)) z (p .first) in
-          subst (λ (x : Writing). Good (afterWrite h b x)) (sym (a .whole)) (gone-good h g lent b (a .set) (write-passed (h .table) (h .image) (h .undo) lent b f) (a .largest))
+          subst (λ (x : Writing). Good (afterWrite h b x)) (sym (a .whole))
+          (gone-good (record { good = g; lent = lent; passed = write-passed (h .table) (h .image) (h .undo) lent b f; largest = a .largest }))
 
   -- ---- complete
   complete-good : (b : ℕ) (o : Completion) → Completes (h .table) b o → Good (afterComplete h b o)
@@ -85,7 +91,7 @@ module _ (h : History) (g : Good h) where
     where
       go : Dec (plainNumber (o .answer) ≡ 0) → Good (afterComplete h b o)
       go (no d) = subst (λ (x : Completion). Good (afterComplete h b x)) (sym (p .refusal d)) g
-      go (yes z) = subst (λ (x : Completion). Good (afterComplete h b x)) (sym (p .grant z)) (landed-good h g b)
+      go (yes z) = subst (λ (x : Completion). Good (afterComplete h b x)) (sym (p .grant z)) (landed-good g b)
 
 call-good : {h h′ : History} → Good h → Call h h′ → Good h′
 call-good {h} g (Call.creates c o p) = create-good h g c o p

@@ -118,7 +118,9 @@ pub record WritePassed (t : Table) (image undo block : List ℕ) (b : ℕ) : Typ
 
 -- a largest set has a member where not only the empty one may go
 member : (ss : List Slot) (b s : ℕ) → Waits ss b → (OnlyEmpty ss b → ⊥) → Largest ss b s → (i : ℕ) × (has s i ≡ true)
-member ss b s w e l = let m = a-member s (l .goes .set) (λ z. e (w, λ u p. no-member u (p .set) (λ i q. never u i z p (true-or-false (has u i))))) in (m .0, m .2)
+member ss b s w e l =
+    let m = a-member s (l .goes .set) (λ z. e (w, λ u p. no-member u (p .set) (λ i q. never u i z p (true-or-false (has u i))))) in
+    (m .0, m .2)
   where
     never : (u i : ℕ) → s ≡ 0 → MayGo ss b u → (has u i ≡ true) ⊎ (has u i ≡ false) → has u i ≡ false
     never u i z p (inl f) = absurd (clash (subst (λ (x : ℕ). has x i ≡ true) z (l .most u p i f)) (has-none i))
