@@ -63,16 +63,19 @@ module _ (ss ss′ : List Slot) (i : ℕ) (k : Like (slotAt ss′ i) (slotAt ss 
 pub linked-kept : (ss ss′ : List Slot) (l : List Accepted) → ((i : ℕ) → i < slots → used ss′ i ≡ true → Like (slotAt ss′ i) (slotAt ss i))
     → Linked ss l → Linked ss′ l
 linked-kept ss ss′ l like k = record {
-  block = λ a m i h. let q = near a i h in q .block ∙ k .block a m i (h .0, carries-was ss ss′ i q (a .number) (h .1));
-  range = λ a o i h. let q = near a i h in range-still ss ss′ i q (plain a) (k .range a o i (h .0, carries-was ss ss′ i q (a .number) (h .1)));
+  block = λ a m i h. near a i h .block ∙ k .block a m i (had a i h);
+  range = λ a o i h. range-still ss ss′ i (near a i h) (plain a) (k .range a o i (had a i h));
   single = λ i h e.
       let q = like i h (roomed-used (slotAt ss′ i .state) (roomOf (slotAt ss′ i .state)) e) in
       subst (λ (n : ℕ). Once n l) (sym (q .number)) (k .single i h (like-room q e .0));
-  told = λ a m i h y s. let q = near a i h in overlaps-still ss ss′ i q y (k .told a m i (h .0, carries-was ss ss′ i q (a .number) (h .1)) y s);
+  told = λ a m i h y s. overlaps-still ss ss′ i (near a i h) y (k .told a m i (had a i h) y s);
 }
   where
     near : (a : Accepted) (i : ℕ) → Has ss′ a i → Like (slotAt ss′ i) (slotAt ss i)
     near a i h = like i (h .0) (carries-used ss′ (a .number) i (h .1))
+
+    had : (a : Accepted) (i : ℕ) → Has ss′ a i → Has ss a i
+    had a i h = (h .0, carries-was ss ss′ i (near a i h) (a .number) (h .1))
 
 -- a number that keeps its slot has its room afterwards only if it had it
 pub room-stays : (ss ss′ : List Slot) (n : ℕ) → slotOf ss′ n ≡ slotOf ss n → ((i : ℕ) → slotOf ss n ≡ some i → Like (slotAt ss′ i) (slotAt ss i))
