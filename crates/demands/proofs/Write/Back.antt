@@ -34,7 +34,7 @@ use Rattle.demands.proofs.Words.{roomAt}
 use Rattle.demands.proofs.Linked.{Range, Has}
 use Rattle.demands.proofs.Radio.{roomByte, room-byte, oldByte, world}
 use Rattle.demands.proofs.Write.Slots.{Sending, writ, goes}
-use Rattle.demands.proofs.Write.Left.{behind, isLeft, behind-waits, behind-roomed, left-slot, left-nowhere, left-one, joined-stays}
+use Rattle.demands.proofs.Write.Left.{behind, isLeft, behind-waits, behind-roomed, left-slot, left-nowhere, left-one, joined-not-left}
 
 -- the part of a log that starts at some place of it
 record Since (l log : List Accepted) : Type 0 where
@@ -181,7 +181,7 @@ module _ {h : History} {b s : ℕ} (d : Sending h b s) where
       ∙ all-back rest q (omega arith) (since-older f) (taken a m xs st size looks) (put a m xs st size looks)
       (length-back-number ss (behind d) (h .undo) (a .number) slots xs ∙ size) (one-back a m xs st size looks) i k
   all-back n (Numbered.joins {older = l} a x t p r q) e f xs st size looks i k =
-      let stays = joined-stays d a x (f .member a (List·Memᴰ·head refl)) (f .order a x (Earlier.here t)) p in
+      let stays = joined-not-left d a x (f .member a (List·Memᴰ·head refl)) (f .order a x (Earlier.here t)) p in
       all-back n q e (since-older f) xs st size looks i k
       ∙ sym
       (ap (λ (v : Bool). takeBack (isLeft d) (oldByte ss (h .undo)) (map plain l) (cond v (putBack (oldByte ss (h .undo)) (plain a) st) st) b i) stays)

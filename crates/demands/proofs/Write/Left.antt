@@ -1,7 +1,7 @@
 -- What a granted write leaves behind: each such patch has a room, so its number stands for one change.
 use Prim.Native.Nat.{ℕ, _<_}
 use mathlib.Core.Path.{_≡_, refl, sym, _∙_, ap, subst}
-use mathlib.Core.Bool.{Bool, true, false, _&&_, not}
+use mathlib.Core.Bool.{Bool, true, false, _&&_, not, and-false}
 use mathlib.Core.List.{List, List·Memᴰ}
 use mathlib.Core.Option.{Option, none, some}
 use mathlib.Core.Logic.{⊎-elim}
@@ -70,11 +70,8 @@ module _ {h : History} {b s : ℕ} (d : Sending h b s) where
 
   pub left-nowhere : (a : Accepted) → slotOf ss (a .number) ≡ none → isLeft (plain a) ≡ false
   unfolding left cut.isWaiting
-  left-nowhere a q = ap (λ (p : Option ℕ). eqb (a .change .block) b && (cut.isWaiting (stateAt ss p) && not (goAt s p))) q ∙ none-of (eqb (a .change .block) b)
-    where
-      none-of : (x : Bool) → (x && false) ≡ false
-      none-of true = refl
-      none-of false = refl
+  left-nowhere a q =
+      ap (λ (p : Option ℕ). eqb (a .change .block) b && (cut.isWaiting (stateAt ss p) && not (goAt s p))) q ∙ and-false (eqb (a .change .block) b)
 
   -- it is the one change of its number, and has a room
   pub left-one : (a : Accepted) → List·Memᴰ a (h .accepted) → isLeft (plain a) ≡ true → (roomedOf ss (a .number) ≡ true) × Once (a .number) (h .accepted)
@@ -91,5 +88,5 @@ module _ {h : History} {b s : ℕ} (d : Sending h b s) where
   left-roomed a m e = left-one a m e .0
 
   -- a change that has joined another is not left behind
-  pub joined-stays : (a x : Accepted) → List·Memᴰ a (h .accepted) → Earlier (h .accepted) a x → a .number ≡ x .number → isLeft (plain a) ≡ false
-  joined-stays a x m e n = ⊎-elim (λ f. absurd (left-one a m f .1 a x e refl (sym n))) (λ f. f) (true-or-false (isLeft (plain a)))
+  pub joined-not-left : (a x : Accepted) → List·Memᴰ a (h .accepted) → Earlier (h .accepted) a x → a .number ≡ x .number → isLeft (plain a) ≡ false
+  joined-not-left a x m e n = ⊎-elim (λ f. absurd (left-one a m f .1 a x e refl (sym n))) (λ f. f) (true-or-false (isLeft (plain a)))
