@@ -25,7 +25,7 @@ use Rattle.rules.specs.Create.{Change, befores, HoldOf, turnedState, turned, pa
 use Rattle.rules.specs.Write.{sentState, sentSlot, sentSlots, sent}
 use Rattle.rules.specs.Complete.{withoutBefores, landedSlot, landedSlots, landing, completedSlots, completed}
 use Rattle.rules.specs.Refusals.{First, openCases}
-use Rattle.rules.specs.Calls.{plainNumber, createNumber, writeNumber, Opening, Opens, Creation, Creates, Writing, Writes, Completion, Completes}
+use Rattle.rules.specs.Calls.{plainNumber, createNumber, writeNumber, Opening, Opens, Creation, Creates, Writing, Writes, Completion, Completes, sentSet}
 use Rattle.rules.proofs.Cases.{passed}
 use Rattle.rules.proofs.SlotsBy.{slot-by, length-by}
 use Rattle.rules.proofs.Granted.{CreatePassed, create-passed}
@@ -210,7 +210,8 @@ module _ (xs : List ℕ) (bytes : Bytes xs) where
   pub write-kept : (image undo handed : List ℕ) (b : ℕ) (o : Writing) → Writes (tableIn xs) image undo handed b o → writeNumber (o .answer) ≡ 0 → ReadsBack (o .table)
   write-kept image undo handed b o p z =
       let g = p .grant z in
-      subst (λ (x : Writing). ReadsBack (x .table)) (sym (g .whole)) (read-back (sent (tableIn xs) (g .set)) (sent-fits (tableIn xs) (table-fits xs bytes) (g .set)))
+      subst (λ (x : Writing). ReadsBack (x .table)) (sym (g .whole))
+      (read-back (sent (tableIn xs) (sentSet (o .answer))) (sent-fits (tableIn xs) (table-fits xs bytes) (sentSet (o .answer))))
 
   pub complete-kept : (b : ℕ) (o : Completion) → Completes (tableIn xs) b o → plainNumber (o .answer) ≡ 0 → ReadsBack (o .table)
   complete-kept b o p z =

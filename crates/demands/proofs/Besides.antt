@@ -12,7 +12,7 @@ use Rattle.rules.specs.declared.Slot.{Slot}
 use Rattle.rules.specs.Slots.{isWaiting, isInFlight}
 use Rattle.rules.specs.Table.{Table, slotAt, Issued, InSlot, Committed}
 use Rattle.rules.specs.Create.{isIn}
-use Rattle.rules.specs.Ask.{Asked}
+use Rattle.rules.specs.Ask.{askWord, Asked}
 use Rattle.rules.specs.Calls.{Writing, Writes, writeNumber, Asks}
 use Rattle.rules.proofs.Granted.{write-passed}
 use Rattle.demands.specs.History.{History, Accepted, Sent}
@@ -36,11 +36,18 @@ Says t n ask.InFlight = (i : ℕ) × InSlot t n i × (isInFlight (slotAt (t .slo
 Says t n ask.Committed = Committed t n
 Says t n (ask.Refused k) = Unit {0}
 
-says : {t : Table} {n : ℕ} {a : AskAnswer} → Asked t n a → Says t n a
+says : {t : Table} {n : ℕ} (a : AskAnswer) → Asked t n (askWord a) → Says t n a
 unfolding Says
-says (Asked.waiting i s w) = (i, s, w)
-says (Asked.inFlight i s w) = (i, s, w)
-says (Asked.committed c) = c
+says ask.Waiting (Asked.waiting e i s w) = (i, s, w)
+says ask.Waiting (Asked.inFlight e i s w) = absurd (omega arith)
+says ask.Waiting (Asked.committed e c) = absurd (omega arith)
+says ask.InFlight (Asked.waiting e i s w) = absurd (omega arith)
+says ask.InFlight (Asked.inFlight e i s w) = (i, s, w)
+says ask.InFlight (Asked.committed e c) = absurd (omega arith)
+says ask.Committed (Asked.waiting e i s w) = absurd (omega arith)
+says ask.Committed (Asked.inFlight e i s w) = absurd (omega arith)
+says ask.Committed (Asked.committed e c) = c
+says (ask.Refused k) x = tt
 
 module _ (h : History) (g : Good h) where
   abbrev ss : List Slot
@@ -76,7 +83,7 @@ module _ (h : History) (g : Good h) where
   waiting-unsent : (n : ℕ) → Asks (h .table) n ask.Waiting → sentIn n (h .inFlight ++ h .landed) ≡ false
   unfolding Says
   waiting-unsent n p =
-      let s = says (p .grant refl) in
+      let s = says ask.Waiting (p .grant refl) in
       let q = in-slot n (s .0) (s .1) in
       let word = ap (stateAt ss) (q .1) ∙ waiting-word (slotAt ss (s .0) .state) (s .2) in
       sent-in-both n (h .inFlight) (h .landed) ∙ ap₂ (λ (x y : Bool). x || y) (out-is n (q .0) ∙ ap isOut word) (landed-is n (q .0) ∙ ap isDone word)
@@ -84,14 +91,14 @@ module _ (h : History) (g : Good h) where
   flying-out : (n : ℕ) → Asks (h .table) n ask.InFlight → sentIn n (h .inFlight) ≡ true
   unfolding Says
   flying-out n p =
-      let s = says (p .grant refl) in
+      let s = says ask.InFlight (p .grant refl) in
       let q = in-slot n (s .0) (s .1) in
       out-is n (q .0) ∙ ap isOut (ap (stateAt ss) (q .1) ∙ flying-word (slotAt ss (s .0) .state) (s .2))
 
   pub committed-landed : (n : ℕ) → Asks (h .table) n ask.Committed → sentIn n (h .landed) ≡ true
   unfolding Says
   committed-landed n p =
-      let c = says (p .grant refl) in
+      let c = says ask.Committed (p .grant refl) in
       let gone = no-slot ss n (λ i l f. c .1 i (l, carries-used ss n i f, carries-number ss n i f)) in
       landed-is n (c .0) ∙ ap (λ (x : Option ℕ). isDone (stateAt ss x)) gone
 

@@ -12,14 +12,15 @@ use Rattle.rules.specs.declared.AskAnswer.{AskAnswer}
 use Rattle.rules.specs.declared.AskAnswer.the-variants as ask
 use Rattle.rules.specs.Table.{Table}
 use Rattle.rules.specs.Create.{Change}
-use Rattle.rules.specs.Calls.{Opening, Creation, Creates, createNumber, createRefused, createGranted}
+use Rattle.rules.specs.Ask.{askWord}
+use Rattle.rules.specs.Calls.{Opening, Creation, Creates, createNumber, createRefused, createGranted, sentSet}
 use Rattle.rules.specs.Calls.{Writing, Writes, writeNumber, writeRefused, writeGranted}
 use Rattle.rules.specs.Calls.{Completion, Completes, plainNumber, completeRefused, completeGranted, Asks}
 use Rattle.demands.specs.History as history
 use Rattle.demands.specs.History.{History}
 use Rattle.demands.specs.Demand3 as demand
 use Rattle.board.specs.Layout.{tableIn, IsTable, bytesOf}
-use Rattle.board.specs.Calls.{tableAfter, CreateEnd, createEnd, WriteEnd, writeEnd, stateNumber, AskCall}
+use Rattle.board.specs.Calls.{tableAfter, CreateEnd, createEnd, WriteEnd, writeEnd, AskCall}
 use Rattle.board.proofs.Kept.{Bytes, bytes-of, open-kept, create-kept, write-kept, complete-kept}
 use Rattle.firmware.specs.Run.{Run, meant, begun, afterCreate, afterWrite, afterComplete, Call, Happened, Later}
 
@@ -71,7 +72,8 @@ module _ (r : Run) where
       by : Dec (writeNumber (o .answer) ≡ 0) → meant (afterWrite r b (writeEnd (r .bytes) o)) ≡ history.afterWrite (meant r) b o
       by (yes z) =
           subst (λ (x : Writing). tableIn (bytesOf (x .table)) ≡ x .table → meant (afterWrite r b (writeEnd (r .bytes) x)) ≡ history.afterWrite (meant r) b x)
-          (sym (p .grant z .whole)) (λ e. ap (withTable (history.afterWrite (meant r) b (writeGranted t (r .image) (r .undo) b (p .grant z .set)))) e) (kept z)
+          (sym (p .grant z .whole)) (λ e. ap (withTable (history.afterWrite (meant r) b (writeGranted t (r .image) (r .undo) b (sentSet (o .answer))))) e)
+          (kept z)
       by (no d) =
           subst (λ (x : Writing). meant (afterWrite r b (writeEnd (r .bytes) x)) ≡ history.afterWrite (meant r) b x) (sym (p .refusal d)) (refused _ d)
 
@@ -175,7 +177,7 @@ pub run-is-history : {r : Run} → Happened r → history.Happened (meant r)
 run-is-history w = means w .1
 
 -- in which ask's 3 is its word committed
-committed-only : (a : AskAnswer) → 3 ≡ stateNumber a → a ≡ ask.Committed
+committed-only : (a : AskAnswer) → 3 ≡ askWord a → a ≡ ask.Committed
 committed-only ask.Waiting e = absurd (omega arith)
 committed-only ask.InFlight e = absurd (omega arith)
 committed-only ask.Committed e = refl

@@ -9,7 +9,7 @@ use Rattle.rules.specs.Sizes.{lastNumber}
 use Rattle.rules.specs.Table.{Table, Sound}
 use Rattle.rules.specs.Create.{Change}
 use Rattle.rules.specs.Refusals.{First, openCases}
-use Rattle.rules.specs.Calls.{Opening, Opens, Creation, Creates, Writing, Writes, Completion, Completes, plainNumber, createNumber, writeNumber}
+use Rattle.rules.specs.Calls.{Opening, Opens, Creation, Creates, Writing, Writes, Completion, Completes, plainNumber, createNumber, writeNumber, sentSet}
 use Rattle.rules.proofs.Cases.{passed}
 use Rattle.rules.proofs.Granted.{create-passed}
 use Rattle.rules.proofs.StaysSound.{opened-sound, accepted-sound, sent-sound, completed-sound}
@@ -40,7 +40,7 @@ write-sound t image undo block b o s p = go (ℕ-discrete (writeNumber (o .answe
   where
     go : Dec (writeNumber (o .answer) ≡ 0) → Sound (o .table)
     go (no d) = subst (λ (x : Writing). Sound (x .table)) (sym (p .refusal d)) s
-    go (yes z) = let g = p .grant z in subst (λ (x : Writing). Sound (x .table)) (sym (g .whole)) (sent-sound t (g .set) s)
+    go (yes z) = let g = p .grant z in subst (λ (x : Writing). Sound (x .table)) (sym (g .whole)) (sent-sound t (sentSet (o .answer)) s)
 
 pub complete-sound : (t : Table) (b : ℕ) (o : Completion) → Sound t → Completes t b o → Sound (o .table)
 complete-sound t b o s p = go (ℕ-discrete (plainNumber (o .answer)) 0)

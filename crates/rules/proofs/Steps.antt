@@ -109,7 +109,7 @@ module _ (r : Radio) (g : Good r) where
       (passes (room-for (r .table .slots) c h held)
       none-holds))))))))))
       refl
-      (record { slot = j; hold = h; lowest = low; hard-or-soft = held; whole = refl })
+      (record { slot = j; hold = h; lowest = low; hard-or-soft = held; number = refl; says = refl; whole = refl })
 
   good-created : (c : Change) (o : Creation) → Creates (r .table) (r .image) (r .undo) c o → length (o .image) ≡ length (r .image) → length (o .undo) ≡ length (r .undo) → Good (afterCreate o)
   good-created c o p i u = record { sound = create-sound (r .table) (r .image) (r .undo) c o (g .sound) p; image-whole = i ∙ g .image-whole; undo-whole = u ∙ g .undo-whole }
@@ -182,7 +182,7 @@ module _ (r : Radio) (g : Good r) where
               (passes (λ e. clash h (subst (λ (x : ℕ). has x i ≡ false) (sym (e .1 s (largest .goes))) (has-none i)))
               none-holds))))))
               refl
-              (record { set = s; largest = largest; whole = refl })
+              (record { largest = largest; whole = refl })
 
   -- ---- complete
   pub complete-row : (b i : ℕ) → b < blocks → i < slots → fliesOn (r .table .slots) b i ≡ true
