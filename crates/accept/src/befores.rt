@@ -1,11 +1,24 @@
 // The befores of a new patch: the slots of the named numbers, and those whose bytes it shares.
 ghost use mathlib.Core.Path.{_≡_};
 ghost use Prim.Native.Nat.{_<_, _^_};
-ghost use Rattle.rules.specs.Create.{shares, befores};
+ghost use Rattle.rules.specs.Create.{isIn, shares, befores};
 ghost use Rattle.accept.specs.Tests.{follows};
-use crate::named::is_in;
 use rules::Slot;
 use slots::words::is_used;
+
+// Whether n is one of the numbers.
+fn is_in(n: u32, numbers: &[u32]) -> bool
+    ensures { λ r. ⌜ r ≡ isIn n (now (numbers .entry)) ⌝ }
+{
+    let mut k = 0;
+    while k < numbers.len() {
+        if numbers[k] == n {
+            return true;
+        }
+        k += 1;
+    }
+    false
+}
 
 // Whether two ranges share a byte: the later start is before the earlier end. The sums are of
 // 64 bits, so that none of them wraps whatever the offset; no slice is as long as `m` may be.

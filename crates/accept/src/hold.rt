@@ -1,7 +1,6 @@
 // Whether a new patch is hard or soft, judged on the slots before it is added.
 ghost use Rattle.masks.specs.Decides.{Decides};
 ghost use Rattle.rules.specs.Create.{WouldBeHard};
-ghost use Rattle.slots.specs.Words.{RoomsBelow};
 ghost use Rattle.accept.specs.Asked.{Held};
 ghost use Rattle.accept.specs.Tests.{HoldsBack};
 use crate::lowest::lowest_outside;
@@ -29,7 +28,7 @@ fn holds_back(s: Slot, block: u32, waiting: u64) -> bool
     masks::meets(s.befores, waiting)
 }
 
-pub fn would_be_hard(slots: [Slot; 64], block: u32) -> bool
+fn would_be_hard(slots: [Slot; 64], block: u32) -> bool
     ensures { λ r. ⌜ Decides (WouldBeHard slots block) r ⌝ }
 {
     let on = patches_on(slots, block);
@@ -42,9 +41,10 @@ pub fn would_be_hard(slots: [Slot; 64], block: u32) -> bool
     true
 }
 
-// Hard, or soft with the lowest free room; `taken` is the set of the rooms that are not.
+// Hard, or soft with the lowest room outside the set `taken`, whichever set it is: create passes that
+// of the rooms that are not free.
 pub fn hold_for(slots: [Slot; 64], block: u32, taken: u64) -> Holding
-    ensures { λ r. ⌜ (RoomsBelow slots 64 taken → Held slots block r) ⌝ }
+    ensures { λ r. ⌜ Held slots block taken r ⌝ }
 {
     if would_be_hard(slots, block) {
         return Holding::Of(Hold::Hard);

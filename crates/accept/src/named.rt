@@ -1,22 +1,6 @@
-// The named numbers, lent as a slice: whether one is among them, and whether all were issued.
-ghost use mathlib.Core.Path.{_≡_};
+// The named numbers, lent as a slice: whether all were issued.
 ghost use Rattle.masks.specs.Decides.{Decides};
-ghost use Rattle.rules.specs.Create.{isIn};
 ghost use Rattle.accept.specs.Asked.{Unissued};
-
-// Whether n is one of the numbers.
-pub fn is_in(n: u32, numbers: &[u32]) -> bool
-    ensures { λ r. ⌜ r ≡ isIn n (now (numbers .entry)) ⌝ }
-{
-    let mut k = 0;
-    while k < numbers.len() {
-        if numbers[k] == n {
-            return true;
-        }
-        k += 1;
-    }
-    false
-}
 
 // Whether one of the numbers was never issued.
 pub fn unissued(first: u32, next: u32, numbers: &[u32]) -> bool

@@ -19,10 +19,12 @@ use Rattle.rules.specs.declared.WriteAnswer.{WriteAnswer}
 use Rattle.rules.specs.declared.WriteAnswer.the-variants as write
 use Rattle.rules.specs.Table.{Table}
 use Rattle.rules.specs.Create.{Change, HoldOf}
+use Rattle.rules.specs.Ask.{askWord}
 use Rattle.rules.specs.Refusals.{First, WrongSize}
 use Rattle.rules.specs.Calls.{plainNumber, Opening, Opens, createNumber, patchNumber, hardOrSoft, Creation, Accepts, Creates, writeNumber, sentSet, Writing, Writes, Completion, Completes, askNumber, Asks, countNumber, counted, Counts}
 use Rattle.board.specs.Layout.{tableBytes, IsTable, tableIn, bytesOf}
-use Rattle.board.specs.Calls.{tableAfter, noTableCases, OpenCall, holdNumber, CreateEnd, createNone, CreateCall, WriteEnd, writeNone, WriteCall, CompleteCall, stateNumber, AskCall, CountCall}
+use Rattle.board.specs.Calls.{tableAfter, noTableCases, OpenCall, holdNumber, CreateEnd, createNone, CreateCall, WriteEnd, writeNone, WriteCall}
+use Rattle.board.specs.Calls.{CompleteCall, AskCall, CountCall}
 
 -- ---- open
 
@@ -38,7 +40,8 @@ open-here o a e h p q = record { sized = λ d. (o, h, ap plainNumber (sym p), q)
 pub ask-none : (table : List ℕ) (n : ℕ) → (IsTable table → ⊥) → AskCall table n 2 0
 ask-none table n d = record { is-table = λ i. absurd (d i); no-table = λ e. (refl, refl) }
 
-pub ask-here : {table : List ℕ} {n : ℕ} {t : Table} (a b : AskAnswer) → IsTable table → t ≡ tableIn table → Asks t n a → a ≡ b → AskCall table n (askNumber b) (stateNumber b)
+pub ask-here : {table : List ℕ} {n : ℕ} {t : Table} (a b : AskAnswer) → IsTable table → t ≡ tableIn table → Asks t n a → a ≡ b → AskCall table n
+    (askNumber b) (askWord b)
 ask-here {n = n} a b i e h p = record {
   is-table = λ d. (b, subst (λ (t : Table). Asks t n b) e (subst (Asks _ n) p h), refl, refl);
   no-table = λ d. absurd (d i);

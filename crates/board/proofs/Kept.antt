@@ -18,18 +18,17 @@ use Rattle.rules.specs.declared.State.{State}
 use Rattle.rules.specs.declared.State.the-variants as state
 use Rattle.rules.specs.declared.Slot.{Slot}
 use Rattle.rules.specs.Sizes.{slots, lastNumber}
-use Rattle.rules.specs.Slots.{roomOf, freeSlot, withState, withBefores}
-use Rattle.rules.specs.Table.{Table, slotAt, slotsBy, used, fliesOn}
+use Rattle.rules.specs.Slots.{isUsed, roomOf, freeSlot, withState}
+use Rattle.rules.specs.Table.{Table, slotAt, slotsBy}
 use Rattle.rules.specs.Open.{opened}
 use Rattle.rules.specs.Create.{Change, befores, HoldOf, turnedState, turned, patch, acceptedSlots, accepted}
-use Rattle.rules.specs.Write.{sentState, sentSlots, sent}
-use Rattle.rules.specs.Complete.{remaining, completedSlots, completed}
-use Rattle.rules.specs.Refusals.{First, openCases, createCases}
-use Rattle.rules.specs.Calls.{plainNumber, createNumber, writeNumber, Opening, Opens, Creation, Creates, Writing, Writes, Completion, Completes}
+use Rattle.rules.specs.Write.{sentState, sentSlot, sentSlots, sent}
+use Rattle.rules.specs.Complete.{withoutBefores, landedSlot, landedSlots, landing, completedSlots, completed}
+use Rattle.rules.specs.Refusals.{First, openCases}
+use Rattle.rules.specs.Calls.{plainNumber, createNumber, writeNumber, Opening, Opens, Creation, Creates, Writing, Writes, Completion, Completes, sentSet}
 use Rattle.rules.proofs.Cases.{passed}
 use Rattle.rules.proofs.SlotsBy.{slot-by, length-by}
-use Rattle.rules.proofs.StaysSound.{Valid}
-use Rattle.rules.proofs.SoundCalls.{granted-valid}
+use Rattle.rules.proofs.Granted.{CreatePassed, create-passed}
 use Rattle.board.specs.Layout.{numberAt, stateOf, slotIn, slotStart, tableIn, IsTable, inBytes, tagOf, slotBytes, slotsBytes, bytesOf, SlotFits, TableFits}
 use Rattle.board.proofs.Numbers.{number-4, number-8}
 use Rattle.board.proofs.RoundTrip.{read-back}
@@ -131,7 +130,7 @@ turned-room (state.Waiting h) = omega arith
 turned-room (state.InFlight k) = omega arith
 
 turned-fits : (h : Hold) (b : ℕ) (s : Slot) → SlotFits s → SlotFits (turned h b s)
-turned-fits hold.Hard b s f = either-fits (eqb (s .block) b) (withState (turnedState (s .state)) s) s (with-state-fits (turnedState (s .state)) s (turned-room (s .state)) f) f
+turned-fits hold.Hard b s f = either-fits (eqb (s .block) b) _ s (with-state-fits (turnedState (s .state)) s (turned-room (s .state)) f) f
 turned-fits (hold.Soft r) b s f = f
 
 sent-room : (u : State) → roomOf (sentState u) < 2 ^ 32
@@ -139,51 +138,48 @@ sent-room state.Free = omega arith
 sent-room (state.Waiting h) = omega arith
 sent-room (state.InFlight k) = omega arith
 
+sent-slot-fits : (goes : Bool) (s : Slot) → SlotFits s → SlotFits (sentSlot goes s)
+sent-slot-fits goes s f = either-fits goes _ s (with-state-fits (sentState (s .state)) s (sent-room (s .state)) f) f
+
+without-fits : (gone : ℕ) (s : Slot) → SlotFits s → SlotFits (withoutBefores gone s)
+without-fits gone s f = record { room = f .room; number = f .number; block = f .block; offset = f .offset; len = f .len; befores = set-lt _ }
+
+landed-slot-fits : (landed : ℕ) (commits : Bool) (s : Slot) → SlotFits s → SlotFits (landedSlot landed commits s)
+landed-slot-fits landed commits s f =
+    either-fits commits freeSlot _ free-fits (either-fits (isUsed (s .state)) (withoutBefores landed s) s (without-fits landed s f) f)
+
 hold-room : {ss : List Slot} {b : ℕ} {h : Hold} → HoldOf ss b h → roomOf (state.Waiting h) < 2 ^ 32
 hold-room (HoldOf.hard w) = omega arith
 hold-room (HoldOf.soft n r) = omega (arith, r .within)
 
 module _ (t : Table) (f : TableFits t) where
-  patch-fits : (c : Change) (h : Hold) → Valid t c → HoldOf (t .slots) (c .block) h → SlotFits (patch t c h)
+  patch-fits : {image undo : List ℕ} (c : Change) (h : Hold) → CreatePassed t image undo c → HoldOf (t .slots) (c .block) h → SlotFits (patch t c h)
   unfolding patch befores
   patch-fits c h v o = record {
     room = hold-room o;
     number = f .next;
-    block = omega (arith, v .block);
+    block = omega (arith, v .is-block);
     offset = omega (arith, v .ends);
     len = omega (arith, v .len-most);
     befores = set-lt _;
   }
 
-  accepted-fits : (c : Change) (j : ℕ) (h : Hold) → Valid t c → HoldOf (t .slots) (c .block) h → TableFits (accepted t c j h)
+  accepted-fits : {image undo : List ℕ} (c : Change) (j : ℕ) (h : Hold) → CreatePassed t image undo c → HoldOf (t .slots) (c .block) h → TableFits (accepted t c j h)
   unfolding accepted acceptedSlots
   accepted-fits c j h v o =
       let p = patch t c h in
-      by-fits (t .first) (t .next + 1) (λ i. cond (eqb i j) p (turned h (p .block) (slotAt (t .slots) i))) (f .first) (omega (arith, v .last))
-      (λ i l. either-fits (eqb i j) p (turned h (p .block) (slotAt (t .slots) i)) (patch-fits c h v o) (turned-fits h (p .block) (slotAt (t .slots) i) (f .each i l)))
+      by-fits (t .first) (t .next + 1) _ (f .first) (omega (arith, v .last))
+      (λ i l. either-fits (eqb i j) p _ (patch-fits c h v o) (turned-fits h (p .block) (slotAt (t .slots) i) (f .each i l)))
 
   sent-fits : (s : ℕ) → TableFits (sent t s)
   unfolding sent sentSlots
-  sent-fits s =
-      by-fits (t .first) (t .next) (λ i. cond (has s i) (withState (sentState (slotAt (t .slots) i .state)) (slotAt (t .slots) i)) (slotAt (t .slots) i)) (f .first) (f .next)
-      (λ i l. either-fits (has s i) (withState (sentState (slotAt (t .slots) i .state)) (slotAt (t .slots) i)) (slotAt (t .slots) i) (with-state-fits (sentState (slotAt (t .slots) i .state)) (slotAt (t .slots) i) (sent-room (slotAt (t .slots) i .state)) (f .each i l)) (f .each i l))
-
-  left-fits : (b i : ℕ) → i < slots → SlotFits (withBefores (remaining (t .slots) b i) (slotAt (t .slots) i))
-  left-fits b i l = record {
-    room = f .each i l .room;
-    number = f .each i l .number;
-    block = f .each i l .block;
-    offset = f .each i l .offset;
-    len = f .each i l .len;
-    befores = set-lt _;
-  }
+  sent-fits s = by-fits (t .first) (t .next) _ (f .first) (f .next) (λ i l. sent-slot-fits (has s i) (slotAt (t .slots) i) (f .each i l))
 
   completed-fits : (b : ℕ) → TableFits (completed t b)
-  unfolding completed completedSlots
+  unfolding completed completedSlots landedSlots
   completed-fits b =
-      by-fits (t .first) (t .next) (λ i. cond (fliesOn (t .slots) b i) freeSlot (cond (used (t .slots) i) (withBefores (remaining (t .slots) b i) (slotAt (t .slots) i)) (slotAt (t .slots) i))) (f .first) (f .next)
-      (λ i l. either-fits (fliesOn (t .slots) b i) freeSlot (cond (used (t .slots) i) (withBefores (remaining (t .slots) b i) (slotAt (t .slots) i)) (slotAt (t .slots) i)) free-fits
-      (either-fits (used (t .slots) i) (withBefores (remaining (t .slots) b i) (slotAt (t .slots) i)) (slotAt (t .slots) i) (left-fits b i l) (f .each i l)))
+      let landed = landing (t .slots) b in
+      by-fits (t .first) (t .next) _ (f .first) (f .next) (λ i l. landed-slot-fits landed (has landed i) (slotAt (t .slots) i) (f .each i l))
 
 -- ---- the theorems
 
@@ -208,13 +204,14 @@ module _ (xs : List ℕ) (bytes : Bytes xs) where
   pub create-kept : (image undo : List ℕ) (c : Change) (o : Creation) → Creates (tableIn xs) image undo c o → createNumber (o .answer) ≡ 0 → ReadsBack (o .table)
   create-kept image undo c o p z =
       let g = p .grant z in
-      let v = granted-valid (tableIn xs) image undo c (subst (First (createCases (tableIn xs) image undo c)) z (p .first)) in
+      let v = create-passed p z in
       subst (λ (x : Creation). ReadsBack (x .table)) (sym (g .whole)) (read-back (accepted (tableIn xs) c (g .slot) (g .hold)) (accepted-fits (tableIn xs) (table-fits xs bytes) c (g .slot) (g .hold) v (g .hard-or-soft)))
 
   pub write-kept : (image undo handed : List ℕ) (b : ℕ) (o : Writing) → Writes (tableIn xs) image undo handed b o → writeNumber (o .answer) ≡ 0 → ReadsBack (o .table)
   write-kept image undo handed b o p z =
       let g = p .grant z in
-      subst (λ (x : Writing). ReadsBack (x .table)) (sym (g .whole)) (read-back (sent (tableIn xs) (g .set)) (sent-fits (tableIn xs) (table-fits xs bytes) (g .set)))
+      subst (λ (x : Writing). ReadsBack (x .table)) (sym (g .whole))
+      (read-back (sent (tableIn xs) (sentSet (o .answer))) (sent-fits (tableIn xs) (table-fits xs bytes) (sentSet (o .answer))))
 
   pub complete-kept : (b : ℕ) (o : Completion) → Completes (tableIn xs) b o → plainNumber (o .answer) ≡ 0 → ReadsBack (o .table)
   complete-kept b o p z =

@@ -7,11 +7,13 @@ use native.Mathlib.Omega.{arith}
 use lib.ListN.{length}
 use Rattle.rules.specs.Sizes.{slots}
 use Rattle.rules.specs.Create.{Change}
+use Rattle.rules.specs.Ask.{askWord}
 use Rattle.rules.specs.Calls.{Opening, Completion, plainNumber, askNumber, countNumber, counted}
 use Rattle.rules.proofs.Cases.{first-one}
 use Rattle.rules.proofs.OneAnswer.{open-one, create-one, write-one, complete-one, ask-one, count-one}
 use Rattle.board.specs.Layout.{tableBytes, numberAt, slotStart, IsTable, tableIn, bytesOf}
-use Rattle.board.specs.Calls.{tableAfter, OpenCall, CreateEnd, createEnd, createNone, CreateCall, WriteEnd, writeEnd, writeNone, WriteCall, CompleteCall, stateNumber, AskCall, CountCall}
+use Rattle.board.specs.Calls.{tableAfter, OpenCall, CreateEnd, createEnd, createNone, CreateCall, WriteEnd, writeEnd, writeNone, WriteCall}
+use Rattle.board.specs.Calls.{CompleteCall, AskCall, CountCall}
 
 -- bytes are a table or they are not
 tags-to : (bytes : List ℕ) (n : ℕ) → Dec ((i : ℕ) → i < n → numberAt bytes (slotStart i) 4 ≤ 4)
@@ -94,7 +96,7 @@ module _ {table : List ℕ} where
           let x = p .is-table i in
           let y = q .is-table i in
           let o = ask-one (tableIn table) n (x .0) (y .0) (x .1) (y .1) in
-          (x .2 ∙ ap askNumber o ∙ sym (y .2), x .3 ∙ ap stateNumber o ∙ sym (y .3))
+          (x .2 ∙ ap askNumber o ∙ sym (y .2), x .3 ∙ ap askWord o ∙ sym (y .3))
       by (no d) = (p .no-table d .0 ∙ sym (q .no-table d .0), p .no-table d .1 ∙ sym (q .no-table d .1))
 
   pub count-call-one : {b k k′ n n′ : ℕ} → CountCall table b k n → CountCall table b k′ n′ → (k ≡ k′) × (n ≡ n′)

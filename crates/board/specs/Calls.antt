@@ -11,11 +11,11 @@ use lib.ListN.{length}
 use Rattle.rules.specs.declared.Hold.{Hold}
 use Rattle.rules.specs.declared.Hold.the-variants as hold
 use Rattle.rules.specs.declared.AskAnswer.{AskAnswer}
-use Rattle.rules.specs.declared.AskAnswer.the-variants as ask
 use Rattle.rules.specs.declared.CountAnswer.{CountAnswer}
 use Rattle.rules.specs.Sizes.{imageBytes, undoBytes, blockBytes}
 use Rattle.rules.specs.Table.{Table}
 use Rattle.rules.specs.Create.{Change}
+use Rattle.rules.specs.Ask.{askWord}
 use Rattle.rules.specs.Refusals.{Case, case, First, WrongSize}
 use Rattle.rules.specs.Calls.{plainNumber, Opening, Opens, createNumber, patchNumber, hardOrSoft, Creation, Creates, writeNumber, sentSet, Writing, Writes, Completion, Completes, askNumber, Asks, countNumber, counted, Counts}
 use Rattle.board.specs.Layout.{tableBytes, IsTable, tableIn, bytesOf}
@@ -100,14 +100,8 @@ pub record CompleteCall (table : List ℕ) (block refusal : ℕ) (after : List �
   pub no-table : (IsTable table → ⊥) → (refusal ≡ 2) × (after ≡ table)
 
 -- ASK. state: 0 no word, 1 waiting, 2 in flight, 3 committed
-abbrev pub stateNumber : AskAnswer → ℕ
-stateNumber ask.Waiting = 1
-stateNumber ask.InFlight = 2
-stateNumber ask.Committed = 3
-stateNumber (ask.Refused k) = 0
-
 pub record AskCall (table : List ℕ) (asked refusal state : ℕ) : Type 0 where
-  pub is-table : IsTable table → (a : AskAnswer) × Asks (tableIn table) asked a × (refusal ≡ askNumber a) × (state ≡ stateNumber a)
+  pub is-table : IsTable table → (a : AskAnswer) × Asks (tableIn table) asked a × (refusal ≡ askNumber a) × (state ≡ askWord a)
   pub no-table : (IsTable table → ⊥) → (refusal ≡ 2) × (state ≡ 0)
 
 -- COUNT

@@ -13,6 +13,7 @@ use Rattle.rules.specs.declared.Slot.{Slot}
 use Rattle.rules.specs.Sizes.{slots}
 use Rattle.rules.specs.Slots.{roomOf}
 use Rattle.rules.specs.Table.{Table, slotAt, slotsBy}
+use Rattle.rules.specs.Open.{opened}
 
 -- first (4 bytes), next (4), then 64 slots of 32 bytes
 abbrev pub tableBytes : ℕ
@@ -82,6 +83,13 @@ slotsBytes (s ∷ ss) = slotBytes s ++ slotsBytes ss
 
 unfoldable pub bytesOf : Table → List ℕ
 bytesOf t = inBytes 4 (t .first) ++ inBytes 4 (t .next) ++ slotsBytes (t .slots)
+
+-- WHATEVER THE LENGTH. What is read of bytes of another length is an empty table, and over those nothing is written. No call meets them
+unfoldable pub tableRead : List ℕ → Table
+tableRead bytes = cond (eqb (length bytes) tableBytes) (tableIn bytes) (opened 1)
+
+unfoldable pub tableStored : List ℕ → Table → List ℕ
+tableStored bytes t = cond (eqb (length bytes) tableBytes) (bytesOf t) bytes
 
 -- FITTING. Every field of the slot is below what its bytes hold
 pub record SlotFits (s : Slot) : Type 0 where

@@ -4,7 +4,7 @@ ghost use mathlib.Core.Path.{_≡_};
 ghost use lib.ListN.{length};
 ghost use Rattle.masks.specs.Decides.{Decides};
 ghost use Rattle.cache.specs.Seen.{seen};
-ghost use Rattle.board.specs.Layout.{tableBytes, numberAt, stateOf, slotIn, tableIn, IsTable};
+ghost use Rattle.board.specs.Layout.{tableBytes, numberAt, stateOf, slotIn, tableIn, tableRead, IsTable};
 use cache::Table;
 use moves::slot::free;
 use rules::Hold;
@@ -97,7 +97,7 @@ fn slots_in(bytes: &[u8]) -> [Slot; 64]
 
 // The table in the bytes. Of bytes of another length, of which no call asks, it is an empty one.
 pub fn table_in(bytes: &[u8]) -> Table
-    ensures { λ r. ⌜ (length (now (bytes .entry)) ≡ tableBytes → seen r ≡ tableIn (now (bytes .entry))) ⌝ }
+    ensures { λ r. ⌜ seen r ≡ tableRead (now (bytes .entry)) ⌝ }
 {
     if bytes.len() != 2056 {
         let o = Table::open(1);

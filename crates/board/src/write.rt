@@ -5,7 +5,7 @@ ghost use lib.ListN.{length};
 ghost use mathlib.Core.Path.{_≡_};
 ghost use Rattle.spans.specs.Spans.{splice};
 ghost use Rattle.cache.specs.Seen.{seen};
-ghost use Rattle.board.specs.Layout.{tableBytes, inBytes, tagOf, slotBytes, bytesOf};
+ghost use Rattle.board.specs.Layout.{inBytes, tagOf, slotBytes, tableStored};
 use cache::Table;
 use rules::Hold;
 use rules::Kind;
@@ -69,7 +69,7 @@ fn put_slot(bytes: &mut [u8], at: usize, s: Slot)
 // The whole table over bytes that are as many; other bytes, of which no call asks, stay as they are.
 // The slots are read where they stand, since handing all of them on would copy them.
 pub fn store(bytes: &mut [u8], t: Table)
-    ensures { λ _. ⌜ (length (now (bytes .entry)) ≡ tableBytes → now (bytes .exit) ≡ bytesOf (seen t)) ⌝ }
+    ensures { λ _. ⌜ now (bytes .exit) ≡ tableStored (now (bytes .entry)) (seen t) ⌝ }
 {
     if bytes.len() != 2056 {
         return;

@@ -124,7 +124,7 @@ module _ (t : Table) (image undo : List ℕ) (c : Change) where
       create-granted h held t′ image′ undo′ p q s =
           subst₃ (λ (x : Table) (y z : List ℕ). Creates t image undo c (record { answer = create.Granted (t .next) h; table = x; image = y; undo = z })) (sym p) (sym q) (sym s)
           (grants (createGranted t image undo c j h) (late (passes (λ m. m j (low .within) (low .holds)) (passes (room-for h held) none-holds))) refl
-          (record { slot = j; hold = h; lowest = low; hard-or-soft = held; whole = refl }))
+          (record { slot = j; hold = h; lowest = low; hard-or-soft = held; number = refl; says = refl; whole = refl }))
 
 -- the code's place of a change in the image, and what is laid there and kept, are those of the rules
 pub image-made : (image : List ℕ) (c : Change) → splice image (c .block * 256 + c .offset) (part (c .bytes) 0 (length (c .bytes))) ≡ changed image c

@@ -7,7 +7,7 @@ use Rattle.rules.specs.declared.AskAnswer.the-variants as ask
 use Rattle.rules.specs.declared.CountAnswer.the-variants as count
 use Rattle.rules.specs.Sizes.{blocks}
 use Rattle.rules.specs.Table.{Table, Sound, Issued}
-use Rattle.rules.specs.Ask.{Asked}
+use Rattle.rules.specs.Ask.{askWord, Asked}
 use Rattle.rules.specs.Count.{waitingOn}
 use Rattle.rules.specs.Refusals.{NoFirst}
 use Rattle.rules.specs.Calls.{Opens, openRefused, Asks, askNumber, Counts}
@@ -24,7 +24,7 @@ module _ (t : Table) (n : ℕ) where
   pub ask-unissued : Sound t → (Issued t n → ⊥) → Asks t n (ask.Refused 7)
   ask-unissued s d = refuses 7 (passes (λ u. u s) (holds d)) refl (λ e. omega arith)
 
-  pub ask-granted : (a : AskAnswer) → askNumber a ≡ 0 → Sound t → Issued t n → Asked t n a → Asks t n a
+  pub ask-granted : (a : AskAnswer) → askNumber a ≡ 0 → Sound t → Issued t n → Asked t n (askWord a) → Asks t n a
   ask-granted a z s d g = grants a (passes (λ u. u s) (passes (λ u. u d) none-holds)) z g
 
 module _ (t : Table) (b : ℕ) where
@@ -35,4 +35,5 @@ module _ (t : Table) (b : ℕ) where
   count-no-block s l = refuses 3 (passes (λ u. u s) (holds l)) refl (λ e. omega arith)
 
   pub count-granted : Sound t → b < blocks → Counts t b (count.Granted (waitingOn (t .slots) b))
-  count-granted s l = grants (count.Granted (waitingOn (t .slots) b)) (passes (λ u. u s) (passes (λ m. omega arith) none-holds)) refl refl
+  count-granted s l = grants (count.Granted (waitingOn (t .slots) b)) (passes (λ u. u s) (passes (λ m. omega arith) none-holds)) refl
+      (record { says = refl; whole = refl })

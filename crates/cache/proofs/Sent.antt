@@ -1,20 +1,17 @@
 -- Write and complete: each answer from the facts that the code has found where it returns it.
 use Prim.Native.Nat.{ℕ, _≤_, _<_}
 use mathlib.Core.Path.{_≡_, refl, sym, subst₂}
-use mathlib.Core.Bool.{true, false}
 use mathlib.Core.List.{List, [], _∷_}
-use mathlib.Core.Logic.{_⊎_, inl, inr, ⊎-elim}
+use mathlib.Core.Logic.{_⊎_, ⊎-elim}
 use native.Mathlib.Omega.{arith}
 use lib.ListN.{length}
-use Rattle.masks.specs.Sets.{has}
-use Rattle.masks.proofs.Laws.{has-none, no-member}
-use Rattle.masks.proofs.Decided.{clash, true-or-false}
 use Rattle.rules.specs.Sizes.{blocks, blockBytes, imageBytes, undoBytes}
 use Rattle.rules.specs.Table.{Table, Sound}
 use Rattle.rules.specs.declared.WriteAnswer.the-variants as write
-use Rattle.rules.specs.Write.{MayGo, Largest, sent, handedOut}
+use Rattle.rules.specs.Write.{Largest, sent, handedOut}
 use Rattle.rules.specs.Refusals.{Case, case, First, WrongSize, Flies, Waits, OnlyEmpty, writeCases}
 use Rattle.rules.specs.Calls.{Writes, writeRefused, writeGranted, Completes, completeRefused, completeGranted}
+use Rattle.rules.proofs.Largest.{largest-empty}
 use Rattle.rules.proofs.Cases.{holds, passes, none-holds}
 use Rattle.rules.proofs.Outcomes.{refuses, grants}
 use Rattle.cache.specs.Judged.{Judged, WriteReady}
@@ -71,15 +68,11 @@ module _ (t : Table) (image undo block : List ℕ) (b : ℕ) where
 
     pub write-only-empty : Largest (t .slots) b 0 → Writes t image undo block b (writeRefused t image undo block 13)
     write-only-empty g =
-        refuses 13 (late (holds (r .some-waits, λ s m. no-member s (m .set) (λ i l. never s i m (true-or-false (has s i)))))) refl (λ e. omega arith)
-      where
-        never : (s i : ℕ) → MayGo (t .slots) b s → (has s i ≡ true) ⊎ (has s i ≡ false) → has s i ≡ false
-        never s i m (inl h) = absurd (clash (g .most s m i h) (has-none i))
-        never s i m (inr h) = h
+        refuses 13 (late (holds (r .some-waits, largest-empty g))) refl (λ e. omega arith)
 
     -- the table and the block are what the code made
     pub write-granted : (s : ℕ) → (s ≡ 0 → ⊥) → Largest (t .slots) b s → (t′ : Table) (block′ : List ℕ) → t′ ≡ sent t s → block′ ≡ handedOut t b s image undo
         → Writes t image undo block b (record { answer = write.Granted s; table = t′; image = image; undo = undo; block = block′ })
     write-granted s d g t′ block′ p q =
         subst₂ (λ (x : Table) (y : List ℕ). Writes t image undo block b (record { answer = write.Granted s; table = x; image = image; undo = undo; block = y })) (sym p) (sym q)
-        (grants (writeGranted t image undo b s) (late (passes (λ e. d (e .1 s (g .goes))) none-holds)) refl (record { set = s; largest = g; whole = refl }))
+        (grants (writeGranted t image undo b s) (late (passes (λ e. d (e .1 s (g .goes))) none-holds)) refl (record { largest = g; whole = refl }))

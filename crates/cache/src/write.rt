@@ -69,7 +69,6 @@ impl Table {
             image,
             undo,
             block,
-            self.first,
             self.next,
             slots,
             on.waiting,

@@ -1,32 +1,27 @@
 -- The notes of a good history are true.
-use Prim.Native.Nat.{ℕ, _<_}
+use Prim.Native.Nat.{ℕ}
 use native.Mathlib.Omega.{arith}
-use mathlib.Core.Path.{_≡_, refl, sym, _∙_, ap, subst}
-use mathlib.Core.Bool.{true}
-use mathlib.Core.List.{List, _∷_, List·Memᴰ, List·Memᴰ·head, List·Memᴰ·tail}
-use mathlib.Core.Option.{Option, none, some}
-use borrow.Author.Tests.{eq-eqb}
-use Rattle.masks.proofs.Decided.{clash, true-and, true-or-l, true-or-r}
+use mathlib.Core.Path.{_≡_, refl, sym, _∙_, ap, ap₂, subst}
+use mathlib.Core.Bool.{Bool, true, false, _||_}
+use mathlib.Core.List.{List, _∷_, _++_, List·Memᴰ, List·Memᴰ·head, List·Memᴰ·tail}
+use mathlib.Core.Option.{Option, some}
+use Rattle.masks.proofs.Decided.{true-or-l, true-or-r}
 use Rattle.rules.specs.declared.AskAnswer.{AskAnswer}
 use Rattle.rules.specs.declared.AskAnswer.the-variants as ask
-use Rattle.rules.specs.declared.State as rules
-use Rattle.rules.specs.declared.State.the-variants as state
 use Rattle.rules.specs.declared.Slot.{Slot}
-use Rattle.rules.specs.Sizes.{slots}
-use Rattle.rules.specs.Slots.{isInFlight}
-use Rattle.rules.specs.Table.{Table, slotAt, fliesOn, Committed}
+use Rattle.rules.specs.Slots.{isWaiting, isInFlight}
+use Rattle.rules.specs.Table.{Table, slotAt, Issued, InSlot, Committed}
 use Rattle.rules.specs.Create.{isIn}
-use Rattle.rules.specs.Ask.{Asked}
-use Rattle.rules.specs.Refusals.{First, writeCases}
+use Rattle.rules.specs.Ask.{askWord, Asked}
 use Rattle.rules.specs.Calls.{Writing, Writes, writeNumber, Asks}
-use Rattle.rules.proofs.Cases.{passed}
-use Rattle.cut.specs.World.{State, waiting, inFlight, committed}
+use Rattle.rules.proofs.Granted.{write-passed}
 use Rattle.demands.specs.History.{History, Accepted, Sent}
 use Rattle.demands.specs.Demand3.{sentIn, NotesTrue}
-use Rattle.demands.proofs.Notes.{mem-left}
-use Rattle.demands.proofs.Lookup.{slotOf, carries-used, carries-number, slot-carries, no-slot}
-use Rattle.demands.proofs.Radio.{stateWord, stateAt, isDone, isOut, Good}
-use Rattle.demands.proofs.Numbers.{numbered}
+use Rattle.demands.proofs.Log.{number-taken, named-earlier}
+use Rattle.demands.proofs.Notes.{sent-in-both, mem-left}
+use Rattle.demands.proofs.Lookup.{slotOf, carries-used, carries-number, carries-of, at-slot, no-slot}
+use Rattle.demands.proofs.Words.{stateAt, wordOf, isDone, isOut, waiting-word, flying-word, out-flies}
+use Rattle.demands.proofs.Radio.{Good, none-out}
 
 -- a write that is noted sent what it sent
 noted-sent : (n : ℕ) (ws : List Sent) (w : Sent) → List·Memᴰ w ws → isIn n (w .numbers) ≡ true → sentIn n ws ≡ true
@@ -34,46 +29,87 @@ unfolding sentIn
 noted-sent n (x ∷ ws) w (List·Memᴰ·head e) f = true-or-l (sentIn n ws) (ap (λ (y : Sent). isIn n (y .numbers)) (sym e) ∙ f)
 noted-sent n (x ∷ ws) w (List·Memᴰ·tail m) f = true-or-r (isIn n (x .numbers)) (noted-sent n ws w m f)
 
-word-out : (u : rules.State) → isOut (stateWord u) ≡ true → isInFlight u ≡ true
-word-out state.Free e = absurd (clash e refl)
-word-out (state.Waiting h) e = absurd (clash e refl)
-word-out (state.InFlight k) e = refl
+-- what ask's answer says of the number
+Says : Table → ℕ → AskAnswer → Type 0
+Says t n ask.Waiting = (i : ℕ) × InSlot t n i × (isWaiting (slotAt (t .slots) i .state) ≡ true)
+Says t n ask.InFlight = (i : ℕ) × InSlot t n i × (isInFlight (slotAt (t .slots) i .state) ≡ true)
+Says t n ask.Committed = Committed t n
+Says t n (ask.Refused k) = Unit {0}
 
-is-committed : (t : Table) (n : ℕ) (a : AskAnswer) → Asked t n a → a ≡ ask.Committed → Committed t n
-is-committed t n a (Asked.waiting i s w) e = absurd (let z : _≡_ {A = ℕ} 0 1 = cc in omega arith)
-is-committed t n a (Asked.inFlight i s w) e = absurd (let z : _≡_ {A = ℕ} 0 1 = cc in omega arith)
-is-committed t n a (Asked.committed c) e = c
+says : {t : Table} {n : ℕ} (a : AskAnswer) → Asked t n (askWord a) → Says t n a
+unfolding Says
+says ask.Waiting (Asked.waiting e i s w) = (i, s, w)
+says ask.Waiting (Asked.inFlight e i s w) = absurd (omega arith)
+says ask.Waiting (Asked.committed e c) = absurd (omega arith)
+says ask.InFlight (Asked.waiting e i s w) = absurd (omega arith)
+says ask.InFlight (Asked.inFlight e i s w) = (i, s, w)
+says ask.InFlight (Asked.committed e c) = absurd (omega arith)
+says ask.Committed (Asked.waiting e i s w) = absurd (omega arith)
+says ask.Committed (Asked.inFlight e i s w) = absurd (omega arith)
+says ask.Committed (Asked.committed e c) = c
+says (ask.Refused k) x = tt
 
 module _ (h : History) (g : Good h) where
   abbrev ss : List Slot
   ss = h .table .slots
 
-  alone : (b : ℕ) (lent : List ℕ) (o : Writing) → Writes (h .table) (h .image) (h .undo) lent b o → writeNumber (o .answer) ≡ 0 → (w : Sent) → List·Memᴰ w (h .inFlight) → w .block ≡ b → ⊥
+  alone : (b : ℕ) (lent : List ℕ) (o : Writing) → Writes (h .table) (h .image) (h .undo) lent b o → writeNumber (o .answer) ≡ 0
+      → (w : Sent) → List·Memᴰ w (h .inFlight) → w .block ≡ b → ⊥
   alone b lent o p z w m e =
-      let c1 = passed (λ e. omega arith) (subst (First (writeCases (h .table) (h .image) (h .undo) lent b)) z (p .first)) in
-      let c2 = passed (λ e. omega arith) (c1 .1) in
-      let c3 = passed (λ e. omega arith) (c2 .1) in
-      let c4 = passed (λ e. omega arith) (c3 .1) in
       let n = g .some w (mem-left (h .landed) w m) in
       let a = g .sent w (mem-left (h .landed) w m) (n .0) (n .1) in
       let out = sym (g .out (a .0) (a .1)) ∙ ap (λ (x : ℕ). sentIn x (h .inFlight)) (a .2) ∙ noted-sent (n .0) (h .inFlight) w m (n .1) in
-      go (a .0) (a .1) (a .3 ∙ e) out (slotOf ss (a .0 .number)) refl (c4 .0)
-    where
-      go : (a : Accepted) → List·Memᴰ a (h .accepted) → a .change .block ≡ b → isOut (stateAt ss (slotOf ss (a .number))) ≡ true → (q : Option ℕ) → slotOf ss (a .number) ≡ q
-          → ((i : ℕ) × (i < slots) × (fliesOn ss b i ≡ true) → ⊥) → ⊥
-      go a k f u none q n = clash u (ap (λ (x : Option ℕ). isOut (stateAt ss x)) q)
-      go a k f u (some j) q n =
-          let c = slot-carries ss (a .number) j q in
-          n (j, c .0, true-and (word-out (slotAt ss j .state) (sym (ap (λ (x : Option ℕ). isOut (stateAt ss x)) q) ∙ u)) (eq-eqb (slotAt ss j .block) b (g .link a k j (c .0) (c .1) .block ∙ f)))
+      none-out h g b (write-passed p z .none-flies) (a .0) (a .1) (a .3 ∙ e) (out-flies (wordOf ss (a .0 .number)) out)
 
-  committed-landed : (n : ℕ) → Asks (h .table) n ask.Committed → sentIn n (h .landed) ≡ true
+  -- ---- what ask says, and the notes
+
+  issued : (n : ℕ) → Issued (h .table) n → (a : Accepted) × List·Memᴰ a (h .accepted) × (a .number ≡ n)
+  issued n i = number-taken n (g .numbers) (i .0) (i .1)
+
+  in-slot : (n i : ℕ) → InSlot (h .table) n i → Issued (h .table) n × (slotOf ss n ≡ some i)
+  in-slot n i s =
+      let num = s .2 in
+      let low = g .sound .number-least i (s .0) (s .1) in
+      let high = g .sound .number-most i (s .0) (s .1) in
+      ((omega arith, omega arith), at-slot ss n i (g .sound .numbers-differ) (s .0) (carries-of ss n i (s .1) num))
+
+  -- the notes on an issued number are those on where its patch is
+  landed-is : (n : ℕ) → Issued (h .table) n → sentIn n (h .landed) ≡ isDone (wordOf ss n)
+  landed-is n i = let a = issued n i in subst (λ (m : ℕ). sentIn m (h .landed) ≡ isDone (wordOf ss m)) (a .2) (g .done (a .0) (a .1))
+
+  out-is : (n : ℕ) → Issued (h .table) n → sentIn n (h .inFlight) ≡ isOut (wordOf ss n)
+  out-is n i = let a = issued n i in subst (λ (m : ℕ). sentIn m (h .inFlight) ≡ isOut (wordOf ss m)) (a .2) (g .out (a .0) (a .1))
+
+  waiting-unsent : (n : ℕ) → Asks (h .table) n ask.Waiting → sentIn n (h .inFlight ++ h .landed) ≡ false
+  unfolding Says
+  waiting-unsent n p =
+      let s = says ask.Waiting (p .grant refl) in
+      let q = in-slot n (s .0) (s .1) in
+      let word = ap (stateAt ss) (q .1) ∙ waiting-word (slotAt ss (s .0) .state) (s .2) in
+      sent-in-both n (h .inFlight) (h .landed) ∙ ap₂ (λ (x y : Bool). x || y) (out-is n (q .0) ∙ ap isOut word) (landed-is n (q .0) ∙ ap isDone word)
+
+  flying-out : (n : ℕ) → Asks (h .table) n ask.InFlight → sentIn n (h .inFlight) ≡ true
+  unfolding Says
+  flying-out n p =
+      let s = says ask.InFlight (p .grant refl) in
+      let q = in-slot n (s .0) (s .1) in
+      out-is n (q .0) ∙ ap isOut (ap (stateAt ss) (q .1) ∙ flying-word (slotAt ss (s .0) .state) (s .2))
+
+  pub committed-landed : (n : ℕ) → Asks (h .table) n ask.Committed → sentIn n (h .landed) ≡ true
+  unfolding Says
   committed-landed n p =
-      let c = is-committed (h .table) n ask.Committed (p .grant refl) refl in
-      let low = c .0 .0 in
-      let high = c .0 .1 in
-      let a = numbered (h .table .first) (h .accepted) n (g .numbers) low (omega (arith, g .counted)) in
-      let gone = no-slot ss (a .0 .number) (λ i l f. c .1 i (l, carries-used ss (a .0 .number) i f, carries-number ss (a .0 .number) i f ∙ a .2)) in
-      ap (λ (x : ℕ). sentIn x (h .landed)) (sym (a .2)) ∙ g .done (a .0) (a .1) ∙ ap (λ (x : Option ℕ). isDone (stateAt ss x)) gone
+      let c = says ask.Committed (p .grant refl) in
+      let gone = no-slot ss n (λ i l f. c .1 i (l, carries-used ss n i f, carries-number ss n i f)) in
+      landed-is n (c .0) ∙ ap (λ (x : Option ℕ). isDone (stateAt ss x)) gone
 
   pub good-notes : NotesTrue h
-  good-notes = record { known = g .sent; once = g .once; alone = alone; committed = committed-landed }
+  good-notes = record {
+    issued = issued;
+    named = λ y m n e. named-earlier (h .accepted) y (g .older) m n e;
+    known = g .sent;
+    once = g .once;
+    alone = alone;
+    waiting = waiting-unsent;
+    flying = flying-out;
+    committed = committed-landed;
+  }

@@ -1,35 +1,27 @@
 -- Every history that can be is good: the opening is, and each call keeps it so.
 use Prim.Native.Nat.{ℕ}
 use native.Mathlib.Omega.{arith}
-use native.Mathlib.Decide.{ℕ-discrete, decLt}
+use native.Mathlib.Decide.{ℕ-discrete}
 use mathlib.Core.Path.{_≡_, refl, sym, ap, subst}
-use mathlib.Core.Bool.{true, false}
-use mathlib.Core.List.{List, List·Memᴰ·not-nil}
-use mathlib.Core.Logic.{_⊎_, inl, inr}
+use mathlib.Core.List.{List, [], List·Memᴰ·not-nil}
 use lib.ListN.{length}
-use Rattle.masks.specs.Sets.{has}
-use Rattle.masks.proofs.Laws.{has-none, no-member, a-member}
-use Rattle.masks.proofs.Decided.{clash, true-or-false}
-use Rattle.rules.specs.Sizes.{imageBytes, undoBytes, slots}
+use Rattle.rules.specs.Sizes.{imageBytes}
 use Rattle.rules.specs.Table.{Table}
 use Rattle.rules.specs.Open.{opened}
 use Rattle.rules.specs.Create.{Change, accepted}
-use Rattle.rules.specs.Write.{MayGo, Largest, sent}
+use Rattle.rules.specs.Write.{sent}
 use Rattle.rules.specs.Complete.{completed}
-use Rattle.rules.specs.Refusals.{First, Waits, createCases, writeCases}
 use Rattle.rules.specs.Calls.{Opening, Opens, plainNumber, Creation, Creates, createNumber, Writing, Writes, writeNumber, Completion, Completes}
-use Rattle.rules.proofs.Cases.{passed}
-use Rattle.rules.proofs.SoundCalls.{granted-valid, open-sound}
+use Rattle.rules.proofs.Granted.{create-passed, write-passed}
+use Rattle.rules.proofs.SoundCalls.{open-sound}
 use Rattle.cut.proofs.Core.{open-invariant}
 use Rattle.demands.specs.History.{History, Call, Happened, begun, afterCreate, afterWrite, afterComplete}
 use Rattle.demands.specs.Demand3.{written, timesSent}
+use Rattle.demands.proofs.Log.{Numbered, oldest-in, newer-in}
 use Rattle.demands.proofs.Radio.{Good}
-use Rattle.demands.proofs.Create.{created-good}
-use Rattle.demands.proofs.Write.{gone-good}
-use Rattle.demands.proofs.Complete.{landed-good}
-
-stable : (m n : ℕ) → ((m ≡ n → ⊥) → ⊥) → m ≡ n
-stable m n f = elim (ℕ-discrete m n) [ yes e ↦ e | no d ↦ absurd (f d) ]
+use Rattle.demands.proofs.Create.Leaves.{created-good}
+use Rattle.demands.proofs.Write.Leaves.{gone-good}
+use Rattle.demands.proofs.Complete.Leaves.{landed-good}
 
 -- ---- open
 
@@ -44,10 +36,14 @@ begun-good : (n : ℕ) (o : Opening) (store undo : List ℕ) → Opens n o → l
 unfolding begun written timesSent
 begun-good n o store undo p e = record {
   sound = open-sound n o p;
-  counted = let m = opened-at n o p in let f : o .table .first ≡ m .0 = ap (λ (t : Table). t .first) (m .1) in let x : o .table .next ≡ m .0 = ap (λ (t : Table). t .next) (m .1) in omega arith;
-  numbers = tt;
-  link = λ a m. absurd (List·Memᴰ·not-nil m);
-  older = λ a m. absurd (List·Memᴰ·not-nil m);
+  numbers = let m = opened-at n o p in subst (λ (t : Table). Numbered (t .first) [] (t .next)) (sym (m .1)) Numbered.begins;
+  older = tt;
+  linked = record {
+    block = λ a m. absurd (List·Memᴰ·not-nil m);
+    range = λ a m. absurd (List·Memᴰ·not-nil (oldest-in m));
+    single = λ i l e y x z. absurd (List·Memᴰ·not-nil (newer-in z));
+    told = λ a m. absurd (List·Memᴰ·not-nil m);
+  };
   within = λ a m. absurd (List·Memᴰ·not-nil m);
   image-whole = e;
   opening-whole = e;
@@ -70,29 +66,10 @@ module _ (h : History) (g : Good h) where
       go (no d) = subst (λ (x : Creation). Good (afterCreate h c x)) (sym (p .refusal d)) g
       go (yes z) =
           let a = p .grant z in
-          let f = subst (First (createCases (h .table) (h .image) (h .undo) c)) z (p .first) in
-          let c1 = passed (λ e. omega arith) f in
-          let c2 = passed (λ e. omega arith) (c1 .1) in
-          let c3 = passed (λ e. omega arith) (c2 .1) in
-          let c4 = passed (λ e. omega arith) (c3 .1) in
-          let c5 = passed (λ e. omega arith) (c4 .1) in
-          let c6 = passed (λ e. omega arith) (c5 .1) in
-          let c7 = passed (λ e. omega arith) (c6 .1) in
           subst (λ (x : Creation). Good (afterCreate h c x)) (sym (a .whole))
-          (created-good h g c (a .slot) (a .hold) (a .lowest) (a .hard-or-soft) (granted-valid (h .table) (h .image) (h .undo) c f)
-          (λ n e. elim (decLt n (h .table .next)) [ yes l ↦ l | no d ↦ absurd (c7 .0 (n, e, λ i. d (i .1))) ])
-          (stable (length (h .undo)) undoBytes (λ d. c1 .0 (inr d))))
+          (created-good (record { good = g; lowest = a .lowest; held = a .hard-or-soft; passed = create-passed p z }))
 
   -- ---- write
-  -- a largest set that is granted has a member
-  some-goes : (b s : ℕ) → Largest (h .table .slots) b s → ((Waits (h .table .slots) b → ⊥) → ⊥) → (Waits (h .table .slots) b × ((u : ℕ) → MayGo (h .table .slots) b u → u ≡ 0) → ⊥) → (i : ℕ) × (has s i ≡ true)
-  some-goes b s l w e =
-      let m = a-member s (l .goes .set) (λ z. w (λ v. e (v, λ u p. no-member u (p .set) (λ i q. never u i z p (true-or-false (has u i)))))) in (m .0, m .2)
-    where
-      never : (u i : ℕ) → s ≡ 0 → MayGo (h .table .slots) b u → (has u i ≡ true) ⊎ (has u i ≡ false) → has u i ≡ false
-      never u i z p (inl f) = absurd (clash (subst (λ (x : ℕ). has x i ≡ true) z (l .most u p i f)) (has-none i))
-      never u i z p (inr f) = f
-
   write-good : (b : ℕ) (lent : List ℕ) (o : Writing) → Writes (h .table) (h .image) (h .undo) lent b o → Good (afterWrite h b o)
   unfolding afterWrite sent
   write-good b lent o p = go (ℕ-discrete (writeNumber (o .answer)) 0)
@@ -101,15 +78,8 @@ module _ (h : History) (g : Good h) where
       go (no d) = subst (λ (x : Writing). Good (afterWrite h b x)) (sym (p .refusal d)) g
       go (yes z) =
           let a = p .grant z in
-          let c1 = passed (λ e. omega arith) (subst (First (writeCases (h .table) (h .image) (h .undo) lent b)) z (p .first)) in
-          let c2 = passed (λ e. omega arith) (c1 .1) in
-          let c3 = passed (λ e. omega arith) (c2 .1) in
-          let c4 = passed (λ e. omega arith) (c3 .1) in
-          let c5 = passed (λ e. omega arith) (c4 .1) in
-          let c6 = passed (λ e. omega arith) (c5 .1) in
           subst (λ (x : Writing). Good (afterWrite h b x)) (sym (a .whole))
-          (gone-good h g b (a .set) (omega (arith, c3 .0)) (stable (length (h .undo)) undoBytes (λ d. c1 .0 (inr (inl d)))) (λ i l f. c4 .0 (i, l, f)) (a .largest .goes)
-          (some-goes b (a .set) (a .largest) (c5 .0) (c6 .0)))
+          (gone-good (record { good = g; lent = lent; passed = write-passed p z; largest = a .largest }))
 
   -- ---- complete
   complete-good : (b : ℕ) (o : Completion) → Completes (h .table) b o → Good (afterComplete h b o)
@@ -118,7 +88,7 @@ module _ (h : History) (g : Good h) where
     where
       go : Dec (plainNumber (o .answer) ≡ 0) → Good (afterComplete h b o)
       go (no d) = subst (λ (x : Completion). Good (afterComplete h b x)) (sym (p .refusal d)) g
-      go (yes z) = subst (λ (x : Completion). Good (afterComplete h b x)) (sym (p .grant z)) (landed-good h g b)
+      go (yes z) = subst (λ (x : Completion). Good (afterComplete h b x)) (sym (p .grant z)) (landed-good g b)
 
 call-good : {h h′ : History} → Good h → Call h h′ → Good h′
 call-good {h} g (Call.creates c o p) = create-good h g c o p

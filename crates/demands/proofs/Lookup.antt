@@ -75,7 +75,9 @@ unfolding slotOf
 at-slot ss n j d h e = go (firstOf (carries ss n) slots) (found (carries ss n) slots)
   where
     go : (o : Option ℕ) → Found (carries ss n) slots o → o ≡ some j
-    go (some i) (hit k l f) = ap {B = Option ℕ} some (d k j l h (carries-used ss n k f) (carries-used ss n j e) (carries-number ss n k f ∙ sym (carries-number ss n j e)))
+    go (some i) (hit k l f) =
+        let same = carries-number ss n k f ∙ sym (carries-number ss n j e) in
+        ap {B = Option ℕ} some (d k j l h (carries-used ss n k f) (carries-used ss n j e) same)
     go none (miss f) = absurd (clash e (f j h))
 
 pub slot-carries : (ss : List Slot) (n j : ℕ) → slotOf ss n ≡ some j → (j < slots) × (carries ss n j ≡ true)

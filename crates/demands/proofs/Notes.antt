@@ -46,7 +46,8 @@ module _ (store : List ℕ) (e : length store ≡ imageBytes) (b i : ℕ) where
       ∙ view-splice (whole w) (written ws store) (record { block = l; ends = omega arith }) (length-written ws store ∙ e) b i
 
   -- what is under a run of writes shows through alike
-  pub written-alike : (out M L : List Sent) → AllWhole out → view (written M store) b i ≡ view (written L store) b i → view (written (out ++ M) store) b i ≡ view (written (out ++ L) store) b i
+  pub written-alike : (out M L : List Sent) → AllWhole out → view (written M store) b i ≡ view (written L store) b i
+      → view (written (out ++ M) store) b i ≡ view (written (out ++ L) store) b i
   written-alike [] M L a h = h
   written-alike (w ∷ out) M L a h =
       view-written w (out ++ M) (a w (List·Memᴰ·head refl))
@@ -82,7 +83,8 @@ module _ (store : List ℕ) (e : length store ≡ imageBytes) (b i : ℕ) where
           let same : new b ≡ false = ap new (inside-of (whole w) b i c .0) ∙ n in
           rw (n, same) (ih ∙ ap (λ (v : Bool). cond v (view (written (out ++ L) store) b i) (view (written L store) b i)) same)
       by v n false c ih =
-          let under : view (written (w ∷ (out ++ L)) store) b i ≡ view (written (out ++ L) store) b i = view-written w (out ++ L) hw ∙ carry-outside b i (whole w) _ c in
+          let under : view (written (w ∷ (out ++ L)) store) b i ≡ view (written (out ++ L) store) b i =
+          view-written w (out ++ L) hw ∙ carry-outside b i (whole w) _ c in
           top v n ∙ ih ∙ ap (λ (x : ℕ). cond (new b) x (view (written L store) b i)) (sym under)
         where
           top : (v : Bool) → new (w .block) ≡ v
@@ -111,7 +113,8 @@ sent-in-those new n d (w ∷ out) h =
     by (new (w .block)) refl (isIn n (w .numbers)) refl (sent-in-those new n d out (λ x m. h x (List·Memᴰ·tail m)))
   where
     by : (v : Bool) → new (w .block) ≡ v → (c : Bool) → isIn n (w .numbers) ≡ c → sentIn n (those (λ w. new (w .block)) out) ≡ (new d && sentIn n out)
-        → sentIn n (cond (new (w .block)) (w ∷ those (λ w. new (w .block)) out) (those (λ w. new (w .block)) out)) ≡ (new d && (isIn n (w .numbers) || sentIn n out))
+        → sentIn n (cond (new (w .block)) (w ∷ those (λ w. new (w .block)) out) (those (λ w. new (w .block)) out))
+        ≡ (new d && (isIn n (w .numbers) || sentIn n out))
     by true q true c ih = let same : new d ≡ true = sym (ap new (h w (List·Memᴰ·head refl) c)) ∙ q in rw (q, c, same)
     by false q true c ih = let same : new d ≡ false = sym (ap new (h w (List·Memᴰ·head refl) c)) ∙ q in rw (q, same) (ih ∙ rw same)
     by true q false c ih = rw (q, c) ih
@@ -134,7 +137,8 @@ unfolding those
 of-those test [] x m = absurd (List·Memᴰ·not-nil m)
 of-those test (w ∷ ws) x m = by (test w) refl m (λ k. of-those test ws x k)
   where
-    by : (v : Bool) → test w ≡ v → List·Memᴰ x (cond v (w ∷ those test ws) (those test ws)) → (List·Memᴰ x (those test ws) → List·Memᴰ x ws × (test x ≡ true)) → List·Memᴰ x (w ∷ ws) × (test x ≡ true)
+    by : (v : Bool) → test w ≡ v → List·Memᴰ x (cond v (w ∷ those test ws) (those test ws))
+        → (List·Memᴰ x (those test ws) → List·Memᴰ x ws × (test x ≡ true)) → List·Memᴰ x (w ∷ ws) × (test x ≡ true)
     by true e (List·Memᴰ·head q) f = (List·Memᴰ·head q, ap test q ∙ e)
     by true e (List·Memᴰ·tail k) f = let r = f k in (List·Memᴰ·tail (r .0), r .1)
     by false e k f = let r = f k in (List·Memᴰ·tail (r .0), r .1)
@@ -185,6 +189,7 @@ times-parted n test [] = refl
 times-parted n test (w ∷ ws) = go (test w) (times-parted n test ws)
   where
     go : (v : Bool) → timesSent n (those (λ w. not (test w)) ws) + timesSent n (those test ws) ≡ timesSent n ws
-        → timesSent n (cond (not v) (w ∷ those (λ w. not (test w)) ws) (those (λ w. not (test w)) ws)) + timesSent n (cond v (w ∷ those test ws) (those test ws)) ≡ timesIn n (w .numbers) + timesSent n ws
+        → timesSent n (cond (not v) (w ∷ those (λ w. not (test w)) ws) (those (λ w. not (test w)) ws))
+        + timesSent n (cond v (w ∷ those test ws) (those test ws)) ≡ timesIn n (w .numbers) + timesSent n ws
     go true ih = omega arith
     go false ih = omega arith

@@ -15,7 +15,9 @@ pub question-seven : QuestionSeven
 question-seven = record {
   creates = create-reaches;
   writes = write-reaches;
-  create-refused = λ t image undo c o p d. (ap (λ (x : Creation). x .table) (p .refusal d), ap (λ (x : Creation). x .image) (p .refusal d), ap (λ (x : Creation). x .undo) (p .refusal d));
+  create-refused = λ t image undo c o p d.
+      let same = p .refusal d in
+      (ap (λ (x : Creation). x .table) same, ap (λ (x : Creation). x .image) same, ap (λ (x : Creation). x .undo) same);
   write-refused = λ t image undo block b o p d. (ap (λ (x : Writing). x .table) (p .refusal d), ap (λ (x : Writing). x .block) (p .refusal d));
   complete-refused = λ t b o p d. ap (λ (x : Completion). x .table) (p .refusal d);
   store = λ h w new p l.

@@ -1,5 +1,5 @@
 -- Which bytes a call can reach, and why a place of the store holds its byte.
-use Prim.Native.Nat.{ℕ, _+_, _-_, _≤_, _<_}
+use Prim.Native.Nat.{ℕ, _+_, _≤_, _<_}
 use native.Mathlib.Omega.{arith}
 use native.Mathlib.Decide.{ℕ-discrete, decLt}
 use mathlib.Core.Path.{_≡_, refl, sym, _∙_, ap, subst}
@@ -43,10 +43,14 @@ reaches t image undo c j hold.Hard = record {
 reaches t image undo c j (hold.Soft q) = record {
   in-image = laid image (place c) (length (c .bytes)) (c .bytes) (omega arith);
   hard = λ e. absurd (let z : _≡_ {A = ℕ} 0 1 = cc in omega arith);
-  soft = λ r e. let z : q ≡ r = cc in subst (λ (x : ℕ). SameBut (roomStart x) (length (c .bytes)) undo (splice undo (roomStart q) (oldBytes image c))) z (laid undo (roomStart q) (length (c .bytes)) (oldBytes image c) (shorter image c));
+  soft = λ r e.
+      let z : q ≡ r = cc in
+      subst (λ (x : ℕ). SameBut (roomStart x) (length (c .bytes)) undo (splice undo (roomStart q) (oldBytes image c))) z
+      (laid undo (roomStart q) (length (c .bytes)) (oldBytes image c) (shorter image c));
 }
 
-pub create-reaches : (t : Table) (image undo : List ℕ) (c : Change) (o : Creation) → Creates t image undo c o → createNumber (o .answer) ≡ 0 → CreateReaches image undo c o
+pub create-reaches : (t : Table) (image undo : List ℕ) (c : Change) (o : Creation) → Creates t image undo c o → createNumber (o .answer) ≡ 0
+    → CreateReaches image undo c o
 create-reaches t image undo c o p z = let a = p .grant z in subst (CreateReaches image undo c) (sym (a .whole)) (reaches t image undo c (a .slot) (a .hold))
 
 pub write-reaches : (t : Table) (image undo block : List ℕ) (b : ℕ) (o : Writing) → Writes t image undo block b o → (o .image ≡ image) × (o .undo ≡ undo)
@@ -66,26 +70,30 @@ named-at a p e =
 not-named : (a : Accepted) (p : ℕ) → names a p ≡ false → (p < place (a .change)) ⊎ (place (a .change) + length (a .change .bytes) ≤ p)
 not-named a p e = go (decLt p (place (a .change))) (decLt p (place (a .change) + length (a .change .bytes)))
   where
-    go : Dec (p < place (a .change)) → Dec (p < place (a .change) + length (a .change .bytes)) → (p < place (a .change)) ⊎ (place (a .change) + length (a .change .bytes) ≤ p)
+    go : Dec (p < place (a .change)) → Dec (p < place (a .change) + length (a .change .bytes))
+        → (p < place (a .change)) ⊎ (place (a .change) + length (a .change .bytes) ≤ p)
     go (yes l) m = inl l
     go (no l) (no m) = inr (omega arith)
     go (no l) (yes m) = absurd (clash (true-and (le-leb (place (a .change)) p (omega arith)) (lt-ltb p (place (a .change) + length (a .change .bytes)) m)) e)
 
 -- one more change that does not reach the place
-older-holds : (test : Accepted → Bool) (a : Accepted) (l : List Accepted) (opening : List ℕ) (p byte byte′ : ℕ) → (test a ≡ true → names a p ≡ false) → byte′ ≡ byte
+older-holds : (test : Accepted → Bool) (a : Accepted) (l : List Accepted) (opening : List ℕ) (p byte byte′ : ℕ)
+    → (test a ≡ true → names a p ≡ false) → byte′ ≡ byte
     → Holds test l opening p byte → Holds test (a ∷ l) opening p byte′
 older-holds test a l opening p byte byte′ n e (Holds.untouched f q) = Holds.untouched each (e ∙ q)
   where
     each : (x : Accepted) → List·Memᴰ x (a ∷ l) → test x ≡ true → names x p ≡ false
     each x (List·Memᴰ·head i) t = subst (λ (y : Accepted). names y p ≡ false) (sym i) (n (subst (λ (y : Accepted). test y ≡ true) i t))
     each x (List·Memᴰ·tail m) t = f x m t
-older-holds test a l opening p byte byte′ n e (Holds.written x newer older s t k f q) = Holds.written x (a ∷ newer) older (ap (λ (r : List Accepted). a ∷ r) s) t k each (e ∙ q)
+older-holds test a l opening p byte byte′ n e (Holds.written x newer older s t k f q) =
+    Holds.written x (a ∷ newer) older (ap (λ (r : List Accepted). a ∷ r) s) t k each (e ∙ q)
   where
     each : (y : Accepted) → List·Memᴰ y (a ∷ newer) → test y ≡ true → names y p ≡ false
     each y (List·Memᴰ·head i) u = subst (λ (z : Accepted). names z p ≡ false) (sym i) (n (subst (λ (z : Accepted). test z ≡ true) i u))
     each y (List·Memᴰ·tail m) u = f y m u
 
-pub place-holds : (test : Accepted → Bool) (l : List Accepted) (opening : List ℕ) (p : ℕ) → p < length opening → Holds test l opening p (getD (carriedOut test l opening) p 0)
+pub place-holds : (test : Accepted → Bool) (l : List Accepted) (opening : List ℕ) (p : ℕ) → p < length opening
+    → Holds test l opening p (getD (carriedOut test l opening) p 0)
 unfolding carriedOut changed
 place-holds test [] opening p e = Holds.untouched (λ a m. absurd (List·Memᴰ·not-nil m)) refl
 place-holds test (a ∷ l) opening p e = go (test a) refl (true-or-false (names a p)) (place-holds test l opening p e)
@@ -98,7 +106,8 @@ place-holds test (a ∷ l) opening p e = go (test a) refl (true-or-false (names 
     go false t n ih = older-holds test a l opening p _ _ (λ u. absurd (clash u t)) refl ih
     go true t (inr n) ih =
         older-holds test a l opening p _ _ (λ u. n)
-        (⊎-elim (λ k. splice-below (carriedOut test l opening) (place (a .change)) (a .change .bytes) p k) (λ k. splice-above (carriedOut test l opening) (place (a .change)) (a .change .bytes) p k) (not-named a p n)) ih
+        (⊎-elim (λ k. splice-below (carriedOut test l opening) (place (a .change)) (a .change .bytes) p k)
+        (λ k. splice-above (carriedOut test l opening) (place (a .change)) (a .change .bytes) p k) (not-named a p n)) ih
     go true t (inl n) ih =
         let k = named-at a p n in
         Holds.written a [] l refl t n (λ x m. absurd (List·Memᴰ·not-nil m))

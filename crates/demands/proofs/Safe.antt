@@ -1,14 +1,14 @@
 -- A good history is safe at any cut: what `cut` shows of bytes seen one by one, said of lists of 16,384 and of the notes.
-use Prim.Native.Nat.{ℕ, _+_, _<_}
+use Prim.Native.Nat.{ℕ}
 use native.Mathlib.Omega.{arith}
-use mathlib.Core.Path.{_≡_, refl, sym, _∙_, ap, ap₂, subst}
+use mathlib.Core.Path.{_≡_, refl, sym, _∙_, ap, ap₂}
 use mathlib.Core.Bool.{Bool, true, false, cond, _&&_, _||_}
 use mathlib.Core.List.{List, [], _∷_, map, List·Memᴰ, List·Memᴰ·head, List·Memᴰ·tail}
 use lib.ListN.{length}
 use Rattle.spans.proofs.Laws.{length-splice}
 use Rattle.rules.specs.Sizes.{imageBytes}
 use Rattle.rules.specs.Create.{changed}
-use Rattle.cut.specs.Changes.{Change, after, only, Earlier}
+use Rattle.cut.specs.Changes.{Change, after, only}
 use Rattle.cut.specs.World as world
 use Rattle.cut.specs.World.{State, waiting, inFlight, committed}
 use Rattle.cut.specs.Cut as cutting
@@ -17,12 +17,12 @@ use Rattle.cut.proofs.Facts.{carry-same}
 use Rattle.cut.proofs.Core.{cut-safe}
 use Rattle.demands.specs.History.{History, Accepted, those}
 use Rattle.demands.specs.Demand3.{onStore, storeAfterCut, sentIn, hasLanded, carriedOut, AskedFor, Follows, CutSafe}
+use Rattle.demands.proofs.Log.{plain, newer-in, older-in, earlier-log}
 use Rattle.demands.proofs.Views.{view, view-splice, view-same, Within}
 use Rattle.demands.proofs.Notes.{length-written, some-written, sent-in-both, sent-in-those, mem-left}
-use Rattle.demands.proofs.Lookup.{slotOf}
-use Rattle.demands.proofs.Radio.{stateAt, plain, Numbered, isDone, isOut, Good}
+use Rattle.demands.proofs.Words.{wordOf, isDone, isOut}
 use Rattle.demands.proofs.Radio as radio
-use Rattle.demands.proofs.Numbers.{number-below, sent-to}
+use Rattle.demands.proofs.Radio.{Good, sent-to}
 
 -- the changes that pass a test carried out on an image, seen byte by byte
 pub length-carried : (test : Accepted → Bool) (l : List Accepted) (store : List ℕ) → length (carriedOut test l store) ≡ length store
@@ -40,7 +40,8 @@ view-carried : (test : Accepted → Bool) (word : Change → Bool) (store : List
 unfolding carriedOut changed after only
 view-carried test word store e b i [] f w = refl
 view-carried test word store e b i (a ∷ l) f w =
-    go (test a) (word (plain a)) (f a (List·Memᴰ·head refl)) (view-carried test word store e b i l (λ x m. f x (List·Memᴰ·tail m)) (λ x m. w x (List·Memᴰ·tail m)))
+    go (test a) (word (plain a)) (f a (List·Memᴰ·head refl))
+    (view-carried test word store e b i l (λ x m. f x (List·Memᴰ·tail m)) (λ x m. w x (List·Memᴰ·tail m)))
   where
     go : (u v : Bool) → u ≡ v → view (carriedOut test l store) b i ≡ after (only word (map plain l)) (view store) b i
         → view (cond u (changed (carriedOut test l store) (a .change)) (carriedOut test l store)) b i
@@ -51,19 +52,6 @@ view-carried test word store e b i (a ∷ l) f w =
     go false false q ih = ih
     go true false q ih = absurd (let z : _≡_ {A = ℕ} 0 1 = cc in omega arith)
     go false true q ih = absurd (let z : _≡_ {A = ℕ} 0 1 = cc in omega arith)
-
--- of two accepted changes the one with the lower number was accepted earlier
-earlier-of : (first : ℕ) (l : List Accepted) (y x : Accepted) → Numbered first l → List·Memᴰ y l → List·Memᴰ x l → x .number < y .number → Earlier (map plain l) (plain y) (plain x)
-earlier-of first (a ∷ l) y x n (List·Memᴰ·head p) (List·Memᴰ·head q) e = let z : x .number ≡ y .number = ap (λ (w : Accepted). w .number) (q ∙ sym p) in absurd (omega arith)
-earlier-of first (a ∷ l) y x n (List·Memᴰ·head p) (List·Memᴰ·tail k) e =
-    subst (λ (z : Accepted). Earlier (plain a ∷ map plain l) (plain z) (plain x)) (sym p) (Earlier.here (in-log l x k))
-  where
-    in-log : (l : List Accepted) (x : Accepted) → List·Memᴰ x l → List·Memᴰ (plain x) (map plain l)
-    in-log (c ∷ l) x (List·Memᴰ·head q) = List·Memᴰ·head (ap plain q)
-    in-log (c ∷ l) x (List·Memᴰ·tail m) = List·Memᴰ·tail (in-log l x m)
-earlier-of first (a ∷ l) y x n (List·Memᴰ·tail m) (List·Memᴰ·head q) e =
-    let z : x .number ≡ first + length l = ap (λ (w : Accepted). w .number) q ∙ n .0 in absurd (omega (arith, number-below first l y (n .1) m))
-earlier-of first (a ∷ l) y x n (List·Memᴰ·tail m) (List·Memᴰ·tail k) e = Earlier.there (earlier-of first l y x (n .1) m k e)
 
 -- what is noted, and what the table says of it
 by-state : (new : Bool) (s : State) → ((new && isOut s) || isDone s) ≡ reached new s
@@ -82,7 +70,7 @@ module _ (h : History) (g : Good h) (new : ℕ → Bool) where
       sent-in-both (a .number) (those (λ w. new (w .block)) (h .inFlight)) (h .landed)
       ∙ ap (λ (x : Bool). x || sentIn (a .number) (h .landed)) (sent-in-those new (a .number) (a .change .block) (h .inFlight) (sent-to h g a m))
       ∙ ap₂ (λ (x y : Bool). (new (a .change .block) && x) || y) (g .out a m) (g .done a m)
-      ∙ by-state (new (a .change .block)) (stateAt (h .table .slots) (slotOf (h .table .slots) (a .number)))
+      ∙ by-state (new (a .change .block)) (wordOf (h .table .slots) (a .number))
 
   safe : cutting.CutSafe (view (h .opening)) (radio.world h) new
   safe = cut-safe (g .safe) new
@@ -91,17 +79,21 @@ module _ (h : History) (g : Good h) (new : ℕ → Bool) where
   unfolding storeAfterCut onStore afterCut
   cut-seen b i = some-written (h .opening) (g .opening-whole) b i new (h .inFlight) (h .landed) (λ w m. g .whole w (mem-left (h .landed) w m))
 
+  carried : (b i : ℕ) → view (carriedOut (hasLanded new h) (h .accepted) (h .opening)) b i
+      ≡ after (only (landed new (radio.world h)) (map plain (h .accepted))) (view (h .opening)) b i
+  carried b i = view-carried (hasLanded new h) (landed new (radio.world h)) (h .opening) (g .opening-whole) b i (h .accepted) landed-agrees (g .within)
+
   holds : storeAfterCut new h ≡ carriedOut (hasLanded new h) (h .accepted) (h .opening)
   unfolding storeAfterCut
   holds =
       view-same (storeAfterCut new h) (carriedOut (hasLanded new h) (h .accepted) (h .opening))
       (length-written (onStore new h) (h .opening) ∙ g .opening-whole) (length-carried (hasLanded new h) (h .accepted) (h .opening) ∙ g .opening-whole)
-      (λ b i. cut-seen b i ∙ safe .holds b i ∙ sym (view-carried (hasLanded new h) (landed new (radio.world h)) (h .opening) (g .opening-whole) b i (h .accepted) landed-agrees (g .within)))
+      (λ b i. cut-seen b i ∙ safe .holds b i ∙ sym (carried b i))
 
   asked : (y x : Accepted) → AskedFor h y x → world.Asked (radio.world h) (plain y) (plain x)
   asked y x a = record {
-    earlier = earlier-of (h .table .first) (h .accepted) y x (g .numbers) (a .accepted) (a .before) (g .older y (a .accepted) (x .number) (a .named));
-    asks = record { asker = y; accepted = a .accepted; is = refl; named = a .named };
+    earlier = earlier-log y x (a .earlier);
+    asks = record { asker = y; accepted = newer-in (a .earlier); is = refl; named = a .named };
   }
 
   follows : (y x : Accepted) → Follows h y x → world.Follows (radio.world h) (plain y) (plain x)
@@ -109,8 +101,8 @@ module _ (h : History) (g : Good h) (new : ℕ → Bool) where
   follows y x (Follows.through {z = z} a f) = world.Follows.through (asked y z a) (follows z x f)
 
   ends : (y x : Accepted) → Follows h y x → List·Memᴰ y (h .accepted) × List·Memᴰ x (h .accepted)
-  ends y x (Follows.straight a) = (a .accepted, a .before)
-  ends y x (Follows.through {z = z} a f) = (a .accepted, ends z x f .1)
+  ends y x (Follows.straight a) = (newer-in (a .earlier), older-in (a .earlier))
+  ends y x (Follows.through {z = z} a f) = (newer-in (a .earlier), ends z x f .1)
 
   pub good-safe : CutSafe h new
   good-safe = record {

@@ -55,10 +55,12 @@ inside-of c b i h =
 abbrev start : Change → ℕ
 start c = blockStart (c .block) + c .offset
 
-outside : (c : Change) (b i : ℕ) → Within c → i < blockBytes → covers c b i ≡ false → (blockStart b + i < start c) ⊎ (start c + length (c .bytes) ≤ blockStart b + i)
+outside : (c : Change) (b i : ℕ) → Within c → i < blockBytes → covers c b i ≡ false
+    → (blockStart b + i < start c) ⊎ (start c + length (c .bytes) ≤ blockStart b + i)
 outside c b i f h n = pick (decLt (blockStart b + i) (start c)) (decLt (blockStart b + i) (start c + length (c .bytes)))
   where
-    pick : Dec (blockStart b + i < start c) → Dec (blockStart b + i < start c + length (c .bytes)) → (blockStart b + i < start c) ⊎ (start c + length (c .bytes) ≤ blockStart b + i)
+    pick : Dec (blockStart b + i < start c) → Dec (blockStart b + i < start c + length (c .bytes))
+        → (blockStart b + i < start c) ⊎ (start c + length (c .bytes) ≤ blockStart b + i)
     pick (yes p) q = inl p
     pick (no p) (no q) = inr (omega arith)
     pick (no p) (yes q) =
@@ -76,9 +78,11 @@ module _ (c : Change) (l : List ℕ) (f : Within c) (e : length l ≡ imageBytes
       ∙ splice-in l (start c) (c .bytes) (blockStart b + i) (omega arith) (omega arith) (omega arith)
       ∙ ap (λ (n : ℕ). getD (c .bytes) n 0) p
       ∙ sym (carry-inside b i c (view l) h)
-  at-place false h hb hj = view-in (splice l (start c) (c .bytes)) b i hb hj ∙ other (outside c b i f hj h) ∙ sym (view-in l b i hb hj) ∙ sym (carry-outside b i c (view l) h)
+  at-place false h hb hj =
+      view-in (splice l (start c) (c .bytes)) b i hb hj ∙ other (outside c b i f hj h) ∙ sym (view-in l b i hb hj) ∙ sym (carry-outside b i c (view l) h)
     where
-      other : (blockStart b + i < start c) ⊎ (start c + length (c .bytes) ≤ blockStart b + i) → getD (splice l (start c) (c .bytes)) (blockStart b + i) 0 ≡ getD l (blockStart b + i) 0
+      other : (blockStart b + i < start c) ⊎ (start c + length (c .bytes) ≤ blockStart b + i)
+          → getD (splice l (start c) (c .bytes)) (blockStart b + i) 0 ≡ getD l (blockStart b + i) 0
       other (inl p) = splice-below l (start c) (c .bytes) (blockStart b + i) p
       other (inr p) = splice-above l (start c) (c .bytes) (blockStart b + i) p
 

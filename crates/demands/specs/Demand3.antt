@@ -7,9 +7,10 @@ use lib.Dec.{eqb}
 use Rattle.spans.specs.Spans.{splice}
 use Rattle.rules.specs.declared.AskAnswer.the-variants as ask
 use Rattle.rules.specs.Sizes.{blockStart}
+use Rattle.rules.specs.Table.{Issued}
 use Rattle.rules.specs.Create.{isIn, changed}
 use Rattle.rules.specs.Calls.{Writing, Writes, writeNumber, Asks}
-use Rattle.demands.specs.History.{History, Accepted, Sent, those}
+use Rattle.demands.specs.History.{History, Accepted, Sent, those, Call}
 
 -- the store once writes are there, each block wholly new; the newest write is first in the list
 unfoldable pub written : List Sent → List ℕ → List ℕ
@@ -38,10 +39,17 @@ unfoldable pub carriedOut : (Accepted → Bool) → List Accepted → List ℕ �
 carriedOut test [] store = store
 carriedOut test (a ∷ older) store = let before = carriedOut test older store in cond (test a) (changed before (a .change)) before
 
--- y asked to have x before it: both were accepted, and y's caller named x's number
+-- in a list of changes, newest first, x was accepted earlier than y: by their places in it, as several changes may have one number. A change that was accepted
+-- twice may be earlier than itself
+pub data Earlier : List Accepted → Accepted → Accepted → Type 0 where
+  -- y is the newest, and x is among the older ones
+  here : {y x : Accepted} {older : List Accepted} → List·Memᴰ x older → Earlier (y ∷ older) y x
+  -- or both are among the older ones, in this order
+  there : {a y x : Accepted} {older : List Accepted} → Earlier older y x → Earlier (a ∷ older) y x
+
+-- y asked to have x before it: x was accepted earlier, and y's caller named x's number
 pub record AskedFor (h : History) (y x : Accepted) : Type 0 where
-  pub accepted : List·Memᴰ y (h .accepted)
-  pub before : List·Memᴰ x (h .accepted)
+  pub earlier : Earlier (h .accepted) y x
   pub named : isIn (x .number) (y .change .named) ≡ true
 
 -- straight or through others
@@ -67,6 +75,11 @@ timesSent n (w ∷ ws) = timesIn n (w .numbers) + timesSent n ws
 
 -- beside it, so that nothing is won by forgetting: the notes are true
 pub record NotesTrue (h : History) : Type 0 where
+  -- every number from first to next - 1 is that of an accepted change
+  pub issued : (n : ℕ) → Issued (h .table) n → (a : Accepted) × List·Memᴰ a (h .accepted) × (a .number ≡ n)
+  -- and every number that a change named is that of one accepted earlier
+  pub named : (y : Accepted) → List·Memᴰ y (h .accepted) → (n : ℕ) → isIn n (y .change .named) ≡ true
+      → (x : Accepted) × Earlier (h .accepted) y x × (x .number ≡ n)
   -- every number sent is that of an accepted change of the write's block
   pub known : (w : Sent) → List·Memᴰ w (h .inFlight ++ h .landed) → (n : ℕ) → isIn n (w .numbers) ≡ true
       → (a : Accepted) × List·Memᴰ a (h .accepted) × (a .number ≡ n) × (a .change .block ≡ w .block)
@@ -75,5 +88,18 @@ pub record NotesTrue (h : History) : Type 0 where
   -- a granted write finds nothing in flight to its block
   pub alone : (b : ℕ) (lent : List ℕ) (o : Writing) → Writes (h .table) (h .image) (h .undo) lent b o → writeNumber (o .answer) ≡ 0
       → (w : Sent) → List·Memᴰ w (h .inFlight) → w .block ≡ b → ⊥
-  -- a number that ask calls committed is a landed one
+  -- a number that ask calls waiting was never sent
+  pub waiting : (n : ℕ) → Asks (h .table) n ask.Waiting → sentIn n (h .inFlight ++ h .landed) ≡ false
+  -- one that it calls in flight is in a write that is out
+  pub flying : (n : ℕ) → Asks (h .table) n ask.InFlight → sentIn n (h .inFlight) ≡ true
+  -- and one that it calls committed is a landed one
   pub committed : (n : ℕ) → Asks (h .table) n ask.Committed → sentIn n (h .landed) ≡ true
+
+-- the history h with any further calls
+pub data Later (h : History) : History → Type 0 where
+  now : Later h h
+  then : {h′ h″ : History} → Later h h′ → Call h′ h″ → Later h h″
+
+-- the change is on the store for good: after any further calls and any cut it is among the accepted changes, and landed
+abbrev pub ForGood : History → Accepted → Type 0
+ForGood h a = (h′ : History) → Later h h′ → (new : ℕ → Bool) → List·Memᴰ a (h′ .accepted) × (hasLanded new h′ a ≡ true)

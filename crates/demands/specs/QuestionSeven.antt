@@ -36,16 +36,22 @@ pub data Holds (test : Accepted → Bool) (l : List Accepted) (opening : List �
   untouched : ((a : Accepted) → List·Memᴰ a l → test a ≡ true → names a p ≡ false) → byte ≡ getD opening p 0 → Holds test l opening p byte
   -- or it holds the byte of the one accepted last of those that name it
   written : (a : Accepted) (newer older : List Accepted) → l ≡ newer ++ (a ∷ older) → test a ≡ true → names a p ≡ true
-      → ((x : Accepted) → List·Memᴰ x newer → test x ≡ true → names x p ≡ false) → byte ≡ getD (a .change .bytes) (p - place (a .change)) 0 → Holds test l opening p byte
+      → ((x : Accepted) → List·Memᴰ x newer → test x ≡ true → names x p ≡ false)
+      → byte ≡ getD (a .change .bytes) (p - place (a .change)) 0 → Holds test l opening p byte
 
 pub record QuestionSeven : Type 0 where
   -- what a granted create changes of what it is lent
-  pub creates : (t : Table) (image undo : List ℕ) (c : Change) (o : Creation) → Creates t image undo c o → createNumber (o .answer) ≡ 0 → CreateReaches image undo c o
+  pub creates : (t : Table) (image undo : List ℕ) (c : Change) (o : Creation) → Creates t image undo c o → createNumber (o .answer) ≡ 0
+      → CreateReaches image undo c o
   -- write changes nothing lent but the block handed out (complete, ask and count are lent nothing)
   pub writes : (t : Table) (image undo block : List ℕ) (b : ℕ) (o : Writing) → Writes t image undo block b o → (o .image ≡ image) × (o .undo ≡ undo)
   -- and a refusal nothing at all
-  pub create-refused : (t : Table) (image undo : List ℕ) (c : Change) (o : Creation) → Creates t image undo c o → (createNumber (o .answer) ≡ 0 → ⊥) → (o .table ≡ t) × (o .image ≡ image) × (o .undo ≡ undo)
-  pub write-refused : (t : Table) (image undo block : List ℕ) (b : ℕ) (o : Writing) → Writes t image undo block b o → (writeNumber (o .answer) ≡ 0 → ⊥) → (o .table ≡ t) × (o .block ≡ block)
+  pub create-refused : (t : Table) (image undo : List ℕ) (c : Change) (o : Creation) → Creates t image undo c o → (createNumber (o .answer) ≡ 0 → ⊥)
+      → (o .table ≡ t) × (o .image ≡ image) × (o .undo ≡ undo)
+  pub write-refused : (t : Table) (image undo block : List ℕ) (b : ℕ) (o : Writing) → Writes t image undo block b o → (writeNumber (o .answer) ≡ 0 → ⊥)
+      → (o .table ≡ t) × (o .block ≡ block)
   pub complete-refused : (t : Table) (b : ℕ) (o : Completion) → Completes t b o → (plainNumber (o .answer) ≡ 0 → ⊥) → o .table ≡ t
-  -- on the store, after any history and any cut: a place that no landed change names holds its opening byte, any other the byte of the last accepted landed change that names it
-  pub store : (h : History) → Happened h → (new : ℕ → Bool) (p : ℕ) → p < imageBytes → Holds (hasLanded new h) (h .accepted) (h .opening) p (getD (storeAfterCut new h) p 0)
+  -- on the store, after any history and any cut: a place that no landed change names holds its opening byte, any other the byte of the last accepted
+  -- landed change that names it
+  pub store : (h : History) → Happened h → (new : ℕ → Bool) (p : ℕ) → p < imageBytes
+      → Holds (hasLanded new h) (h .accepted) (h .opening) p (getD (storeAfterCut new h) p 0)

@@ -1,21 +1,28 @@
 -- A run is a history: every function, granted or refused, does to the table that the bytes mean what its call does, and the notes are the
 -- same. Assumes nothing.
 use Prim.Native.Nat.{ℕ}
-use mathlib.Core.Path.{_≡_, sym, ap, subst}
+use mathlib.Core.Path.{_≡_, refl, sym, ap, subst, subst₂}
 use mathlib.Core.Bool.{Bool, true, false, cond}
 use mathlib.Core.List.{List}
 use native.Mathlib.Decide.{ℕ-discrete}
+use native.Mathlib.Omega.{arith}
 use borrow.Author.Tests.{ne-eqb}
 use lib.Dec.{eqb}
+use Rattle.rules.specs.declared.AskAnswer.{AskAnswer}
+use Rattle.rules.specs.declared.AskAnswer.the-variants as ask
 use Rattle.rules.specs.Table.{Table}
 use Rattle.rules.specs.Create.{Change}
-use Rattle.rules.specs.Calls.{Opening, Creation, Creates, createNumber, createRefused, createGranted, Writing, Writes, writeNumber, writeRefused, writeGranted, Completion, Completes, plainNumber, completeRefused, completeGranted}
+use Rattle.rules.specs.Ask.{askWord}
+use Rattle.rules.specs.Calls.{Opening, Creation, Creates, createNumber, createRefused, createGranted, sentSet}
+use Rattle.rules.specs.Calls.{Writing, Writes, writeNumber, writeRefused, writeGranted}
+use Rattle.rules.specs.Calls.{Completion, Completes, plainNumber, completeRefused, completeGranted, Asks}
 use Rattle.demands.specs.History as history
 use Rattle.demands.specs.History.{History}
+use Rattle.demands.specs.Demand3 as demand
 use Rattle.board.specs.Layout.{tableIn, IsTable, bytesOf}
-use Rattle.board.specs.Calls.{tableAfter, CreateEnd, createEnd, WriteEnd, writeEnd}
+use Rattle.board.specs.Calls.{tableAfter, CreateEnd, createEnd, WriteEnd, writeEnd, AskCall}
 use Rattle.board.proofs.Kept.{Bytes, bytes-of, open-kept, create-kept, write-kept, complete-kept}
-use Rattle.firmware.specs.Run.{Run, meant, begun, afterCreate, afterWrite, afterComplete, Call, Happened}
+use Rattle.firmware.specs.Run.{Run, meant, begun, afterCreate, afterWrite, afterComplete, Call, Happened, Later}
 
 -- a history with another table
 abbrev withTable : History → Table → History
@@ -44,12 +51,16 @@ module _ (r : Run) where
 
       by : Dec (createNumber (o .answer) ≡ 0) → meant (afterCreate r c (createEnd (r .bytes) o)) ≡ history.afterCreate (meant r) c o
       by (yes z) =
-          subst (λ (x : Creation). tableIn (bytesOf (x .table)) ≡ x .table → meant (afterCreate r c (createEnd (r .bytes) x)) ≡ history.afterCreate (meant r) c x)
-          (sym (p .grant z .whole)) (λ e. ap (withTable (history.afterCreate (meant r) c (createGranted t (r .image) (r .undo) c (p .grant z .slot) (p .grant z .hold)))) e) (kept z)
+          let a = p .grant z in
+          let granted = createGranted t (r .image) (r .undo) c (a .slot) (a .hold) in
+          subst
+          (λ (x : Creation). tableIn (bytesOf (x .table)) ≡ x .table → meant (afterCreate r c (createEnd (r .bytes) x)) ≡ history.afterCreate (meant r) c x)
+          (sym (a .whole)) (λ e. ap (withTable (history.afterCreate (meant r) c granted)) e) (kept z)
       by (no d) =
           subst (λ (x : Creation). meant (afterCreate r c (createEnd (r .bytes) x)) ≡ history.afterCreate (meant r) c x) (sym (p .refusal d)) (refused _ d)
 
-  write-means : (b : ℕ) (lent : List ℕ) (o : Writing) → Writes t (r .image) (r .undo) lent b o → (writeNumber (o .answer) ≡ 0 → tableIn (bytesOf (o .table)) ≡ o .table)
+  write-means : (b : ℕ) (lent : List ℕ) (o : Writing) → Writes t (r .image) (r .undo) lent b o
+      → (writeNumber (o .answer) ≡ 0 → tableIn (bytesOf (o .table)) ≡ o .table)
       → meant (afterWrite r b (writeEnd (r .bytes) o)) ≡ history.afterWrite (meant r) b o
   unfolding history.afterWrite
   write-means b lent o p kept = by (ℕ-discrete (writeNumber (o .answer)) 0)
@@ -61,7 +72,8 @@ module _ (r : Run) where
       by : Dec (writeNumber (o .answer) ≡ 0) → meant (afterWrite r b (writeEnd (r .bytes) o)) ≡ history.afterWrite (meant r) b o
       by (yes z) =
           subst (λ (x : Writing). tableIn (bytesOf (x .table)) ≡ x .table → meant (afterWrite r b (writeEnd (r .bytes) x)) ≡ history.afterWrite (meant r) b x)
-          (sym (p .grant z .whole)) (λ e. ap (withTable (history.afterWrite (meant r) b (writeGranted t (r .image) (r .undo) b (p .grant z .set)))) e) (kept z)
+          (sym (p .grant z .whole)) (λ e. ap (withTable (history.afterWrite (meant r) b (writeGranted t (r .image) (r .undo) b (sentSet (o .answer))))) e)
+          (kept z)
       by (no d) =
           subst (λ (x : Writing). meant (afterWrite r b (writeEnd (r .bytes) x)) ≡ history.afterWrite (meant r) b x) (sym (p .refusal d)) (refused _ d)
 
@@ -82,15 +94,15 @@ module _ (r : Run) where
           (sym (p .grant z)) (λ e. ap (withTable (history.afterComplete (meant r) b (completeGranted t b))) e) (kept z)
       by (no d) = subst (λ (x : Completion). meant (after x) ≡ history.afterComplete (meant r) b x) (sym (p .refusal d)) (refused _ d)
 
-begun-means : (o : Opening) (store undo : List ℕ) → tableIn (bytesOf (o .table)) ≡ o .table → meant (begun (bytesOf (o .table)) store undo) ≡ history.begun o store undo
+begun-means : (o : Opening) (store undo : List ℕ) → tableIn (bytesOf (o .table)) ≡ o .table
+    → meant (begun (bytesOf (o .table)) store undo) ≡ history.begun o store undo
 unfolding history.begun
 begun-means o store undo kept = ap (withTable (history.begun o store undo)) kept
 
--- what holds of every run
+-- what every run keeps are the bytes of a table
 record Good (r : Run) : Type 0 where
   is-table : IsTable (r .bytes)
   in-bytes : Bytes (r .bytes)
-  happened : history.Happened (meant r)
 
 -- the bytes after a call are a table, written or not
 after-table : (k : ℕ) (xs : List ℕ) (next : Table) → IsTable xs → (k ≡ 0 → IsTable (bytesOf next)) → IsTable (tableAfter k xs next)
@@ -107,50 +119,77 @@ after-bytes k xs next f = by (eqb k 0)
     by true = bytes-of next
     by false = f
 
--- every function keeps it
-step : {r r′ : Run} → Good r → Call r r′ → Good r′
+-- every function leaves such bytes, and is a call of the history
+record Step (r r′ : Run) : Type 0 where
+  after : Good r′
+  call : history.Call (meant r) (meant r′)
+
+step : {r r′ : Run} → Good r → Call r r′ → Step r r′
 step {r} g (Call.creates c e p) =
     let q = p .is-table (g .is-table) in
     let o = q .0 in
     let kept = create-kept (r .bytes) (g .in-bytes) (r .image) (r .undo) c o (q .1) in
-    subst (λ (x : CreateEnd). Good (afterCreate r c x)) (sym (q .2)) (record {
-      is-table = after-table (createNumber (o .answer)) (r .bytes) (o .table) (g .is-table) (λ z. kept z .1);
-      in-bytes = after-bytes (createNumber (o .answer)) (r .bytes) (o .table) (g .in-bytes);
-      happened = subst history.Happened (sym (create-means r c o (q .1) (λ z. kept z .0))) (history.Happened.calls (g .happened) (history.Call.creates c o (q .1)));
+    subst (λ (x : CreateEnd). Step r (afterCreate r c x)) (sym (q .2)) (record {
+      after = record {
+        is-table = after-table (createNumber (o .answer)) (r .bytes) (o .table) (g .is-table) (λ z. kept z .1);
+        in-bytes = after-bytes (createNumber (o .answer)) (r .bytes) (o .table) (g .in-bytes);
+      };
+      call = subst (history.Call (meant r)) (sym (create-means r c o (q .1) (λ z. kept z .0))) (history.Call.creates c o (q .1));
     })
 step {r} g (Call.writes b lent e p) =
     let q = p .is-table (g .is-table) in
     let o = q .0 in
     let kept = write-kept (r .bytes) (g .in-bytes) (r .image) (r .undo) lent b o (q .1) in
-    subst (λ (x : WriteEnd). Good (afterWrite r b x)) (sym (q .2)) (record {
-      is-table = after-table (writeNumber (o .answer)) (r .bytes) (o .table) (g .is-table) (λ z. kept z .1);
-      in-bytes = after-bytes (writeNumber (o .answer)) (r .bytes) (o .table) (g .in-bytes);
-      happened = subst history.Happened (sym (write-means r b lent o (q .1) (λ z. kept z .0))) (history.Happened.calls (g .happened) (history.Call.writes b lent o (q .1)));
+    subst (λ (x : WriteEnd). Step r (afterWrite r b x)) (sym (q .2)) (record {
+      after = record {
+        is-table = after-table (writeNumber (o .answer)) (r .bytes) (o .table) (g .is-table) (λ z. kept z .1);
+        in-bytes = after-bytes (writeNumber (o .answer)) (r .bytes) (o .table) (g .in-bytes);
+      };
+      call = subst (history.Call (meant r)) (sym (write-means r b lent o (q .1) (λ z. kept z .0))) (history.Call.writes b lent o (q .1));
     })
 step {r} g (Call.completes b k after p) =
     let q = p .is-table (g .is-table) in
     let o = q .0 in
     let kept = complete-kept (r .bytes) (g .in-bytes) b o (q .1) in
-    subst (λ (x : List ℕ). Good (afterComplete r b k x)) (sym (q .3))
-    (subst (λ (x : ℕ). Good (afterComplete r b x (tableAfter (plainNumber (o .answer)) (r .bytes) (o .table)))) (sym (q .2)) (record {
-      is-table = after-table (plainNumber (o .answer)) (r .bytes) (o .table) (g .is-table) (λ z. kept z .1);
-      in-bytes = after-bytes (plainNumber (o .answer)) (r .bytes) (o .table) (g .in-bytes);
-      happened = subst history.Happened (sym (complete-means r b o (q .1) (λ z. kept z .0))) (history.Happened.calls (g .happened) (history.Call.completes b o (q .1)));
-    }))
-step g (Call.asks n k s p) = g
-step g (Call.counts b k n p) = g
+    subst₂ (λ (x : ℕ) (y : List ℕ). Step r (afterComplete r b x y)) (sym (q .2)) (sym (q .3)) (record {
+      after = record {
+        is-table = after-table (plainNumber (o .answer)) (r .bytes) (o .table) (g .is-table) (λ z. kept z .1);
+        in-bytes = after-bytes (plainNumber (o .answer)) (r .bytes) (o .table) (g .in-bytes);
+      };
+      call = subst (history.Call (meant r)) (sym (complete-means r b o (q .1) (λ z. kept z .0))) (history.Call.completes b o (q .1));
+    })
+step g (Call.asks n k s p) = let q = p .is-table (g .is-table) in record { after = g; call = history.Call.asks n (q .0) (q .1) }
+step g (Call.counts b k n p) = let q = p .is-table (g .is-table) in record { after = g; call = history.Call.counts b (q .0) (q .1) }
 
-good : {r : Run} → Happened r → Good r
-good (Happened.opens memory store undo first k after l p s) =
+-- a run is a history
+means : {r : Run} → Happened r → Good r × history.Happened (meant r)
+means (Happened.opens memory store undo first k after l p s) =
     let q = p .sized l in
     let o = q .0 in
     let kept = open-kept first o (q .1) in
-    subst (λ (x : List ℕ). Good (begun x store undo)) (sym (q .3)) (record {
-      is-table = kept .1;
-      in-bytes = bytes-of (o .table);
-      happened = subst history.Happened (sym (begun-means o store undo (kept .0))) (history.Happened.opens first o store undo (q .1) s);
-    })
-good (Happened.calls w c) = step (good w) c
+    subst (λ (x : List ℕ). Good (begun x store undo) × history.Happened (meant (begun x store undo))) (sym (q .3)) (
+      record { is-table = kept .1; in-bytes = bytes-of (o .table) },
+      subst history.Happened (sym (begun-means o store undo (kept .0))) (history.Happened.opens first o store undo (q .1) s),
+    )
+means (Happened.calls w c) = let g = means w in let s = step (g .0) c in (s .after, history.Happened.calls (g .1) (s .call))
 
 pub run-is-history : {r : Run} → Happened r → history.Happened (meant r)
-run-is-history w = good w .happened
+run-is-history w = means w .1
+
+-- in which ask's 3 is its word committed
+committed-only : (a : AskAnswer) → 3 ≡ askWord a → a ≡ ask.Committed
+committed-only ask.Waiting e = absurd (omega arith)
+committed-only ask.InFlight e = absurd (omega arith)
+committed-only ask.Committed e = refl
+committed-only (ask.Refused k) e = absurd (omega arith)
+
+pub called-committed : {r : Run} {n k : ℕ} → Happened r → AskCall (r .bytes) n k 3 → Asks (tableIn (r .bytes)) n ask.Committed
+called-committed {r} {n} w p = let q = p .is-table (means w .0 .is-table) in subst (Asks (tableIn (r .bytes)) n) (committed-only (q .0) (q .3)) (q .1)
+
+-- and a later run a later history
+later : {r r′ : Run} → Good r → Later r r′ → Good r′ × demand.Later (meant r) (meant r′)
+later g Later.now = (g, demand.Later.now)
+later g (Later.then l c) = let w = later g l in let s = step (w .0) c in (s .after, demand.Later.then (w .1) (s .call))
+
+pub later-is-later : {r r′ : Run} → Happened r → Later r r′ → demand.Later (meant r) (meant r′)
+later-is-later w l = later (means w .0) l .1

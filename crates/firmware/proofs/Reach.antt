@@ -102,7 +102,8 @@ module _ (table image undo handed : List ℕ) (b : ℕ) (e : WriteEnd) (p : Writ
       by : Dec (IsTable table) → (e .image ≡ image) × (e .undo ≡ undo)
       by (yes t) =
           let q = p .is-table t in
-          subst (λ (x : WriteEnd). (x .image ≡ image) × (x .undo ≡ undo)) (sym (q .2)) (question-seven .writes (tableIn table) image undo handed b (q .0) (q .1))
+          subst (λ (x : WriteEnd). (x .image ≡ image) × (x .undo ≡ undo)) (sym (q .2))
+          (question-seven .writes (tableIn table) image undo handed b (q .0) (q .1))
       by (no n) = let same = p .no-table n .1 in (ap (λ (x : WriteEnd). x .image) same, ap (λ (x : WriteEnd). x .undo) same)
 
   pub write-refused : (e .refusal ≡ 0 → ⊥) → (e .table ≡ table) × (e .handed ≡ handed)

@@ -1,15 +1,16 @@
 -- Questions four and seven of a firmware that links the library, in the words of `demands`.
 use Prim.Native.Nat.{ℕ, _+_, _<_}
 use mathlib.Core.Path.{_≡_}
-use mathlib.Core.Bool.{Bool}
-use mathlib.Core.List.{List}
+use mathlib.Core.Bool.{Bool, true}
+use mathlib.Core.List.{List, List·Memᴰ}
 use lib.ListN.{length, getD}
 use Rattle.rules.specs.Sizes.{imageBytes, roomStart}
 use Rattle.rules.specs.Create.{Change, place}
+use Rattle.demands.specs.History.{Accepted}
 use Rattle.demands.specs.Demand3.{storeAfterCut, hasLanded, CutSafe, NotesTrue}
 use Rattle.demands.specs.QuestionSeven.{SameBut, Holds}
-use Rattle.board.specs.Calls.{CreateEnd, CreateCall, WriteEnd, WriteCall, CompleteCall}
-use Rattle.firmware.specs.Run.{Run, meant, Happened}
+use Rattle.board.specs.Calls.{CreateEnd, CreateCall, WriteEnd, WriteCall, CompleteCall, AskCall}
+use Rattle.firmware.specs.Run.{Run, meant, Happened, Later}
 
 -- question four
 pub record FirmwareQuestionFour : Type 0 where
@@ -17,6 +18,9 @@ pub record FirmwareQuestionFour : Type 0 where
   pub at-any-cut : (r : Run) → Happened r → (new : ℕ → Bool) → CutSafe (meant r) new
   -- and the notes by which that is judged are true
   pub by-true-notes : (r : Run) → Happened r → NotesTrue (meant r)
+  -- a change whose number ask has answered with 3, committed, is on the store after every later cut
+  pub for-good : (r : Run) → Happened r → (a : Accepted) → List·Memᴰ a (r .accepted) → (refusal : ℕ) → AskCall (r .bytes) (a .number) refusal 3
+      → (r′ : Run) → Later r r′ → (new : ℕ → Bool) → List·Memᴰ a (r′ .accepted) × (hasLanded new (meant r′) a ≡ true)
 
 -- a create that answers 0 changes no byte of the image outside the range it names, and of the undo area none but the first bytes of the one room it takes
 pub record CreateReaches (image undo : List ℕ) (c : Change) (e : CreateEnd) : Type 0 where
@@ -35,6 +39,7 @@ pub record FirmwareQuestionSeven : Type 0 where
   pub write-refused : (table image undo handed : List ℕ) (b : ℕ) (e : WriteEnd) → WriteCall table image undo handed b e → (e .refusal ≡ 0 → ⊥)
       → (e .table ≡ table) × (e .handed ≡ handed)
   pub complete-refused : (table : List ℕ) (b refusal : ℕ) (after : List ℕ) → CompleteCall table b refusal after → (refusal ≡ 0 → ⊥) → after ≡ table
-  -- on the store, after any run and any cut: a place that no landed change names holds its opening byte, any other the byte of the last accepted landed change that names it
+  -- on the store, after any run and any cut: a place that no landed change names holds its opening byte, any other the byte of the last accepted
+  -- landed change that names it
   pub store : (r : Run) → Happened r → (new : ℕ → Bool) (p : ℕ) → p < imageBytes
       → Holds (hasLanded new (meant r)) (r .accepted) (r .opening) p (getD (storeAfterCut new (meant r)) p 0)

@@ -57,7 +57,8 @@ afterWrite r b e = record {
   undo = e .undo;
   opening = r .opening;
   accepted = r .accepted;
-  inFlight = cond (eqb (e .refusal) 0) (record { block = b; bytes = e .handed; numbers = numbersBelow (tableIn (r .bytes) .slots) (e .set) slots } ∷ r .inFlight) (r .inFlight);
+  inFlight = cond (eqb (e .refusal) 0)
+      (record { block = b; bytes = e .handed; numbers = numbersBelow (tableIn (r .bytes) .slots) (e .set) slots } ∷ r .inFlight) (r .inFlight);
   landed = r .landed;
 }
 
@@ -85,3 +86,8 @@ pub data Happened : Run → Type 0 where
   opens : (memory store undo : List ℕ) (first refusal : ℕ) (after : List ℕ) → length memory ≡ tableBytes → OpenCall memory first refusal after
       → length store ≡ imageBytes → Happened (begun after store undo)
   calls : {r r′ : Run} → Happened r → Call r r′ → Happened r′
+
+-- the run r with any further calls
+pub data Later (r : Run) : Run → Type 0 where
+  now : Later r r
+  then : {r′ r″ : Run} → Later r r′ → Call r′ r″ → Later r r″

@@ -39,6 +39,12 @@ pub decides : {P : Type 0} (b : Bool) → (b ≡ true → P) → (b ≡ false �
 decides true y n = y refl
 decides false y n = n refl
 
+-- any two answers to one question are equal: this is why a promise that is a Decides admits one answer
+pub decides-one : (P : Type 0) (a b : Bool) → Decides P a → Decides P b → a ≡ b
+decides-one P true b d e = sym (said-yes b e d)
+decides-one P false true d e = absurd (d e)
+decides-one P false false d e = refl
+
 -- both, and one of two
 pub and-true : (a b : Bool) → (a && b) ≡ true → (a ≡ true) × (b ≡ true)
 and-true true b e = (refl, e)

@@ -2,16 +2,17 @@
 use Prim.Native.Nat.{ℕ, zero, suc, _+_, _-_, _^_, _≤_, _<_, min, max}
 use mathlib.Core.Path.{_≡_, refl, sym, ap, ap₂, _∙_, subst}
 use mathlib.Core.Bool.{Bool, true, false, cond, _&&_, _||_, not, or-false}
+use mathlib.Core.Logic.{⊎-elim}
 use native.Mathlib.Nat.{pow-suc, lt-of-not-le, lt-of-lt-of-le, zero-add, add-zero}
 use native.Mathlib.Decide.{ℕ-discrete, decLt}
 use native.Mathlib.Numerals.{add-one}
 use native.Mathlib.Omega.{arith}
-use borrow.Author.Tests.{eq-eqb, ne-eqb, eqb-true, eqb-false}
+use borrow.Author.Tests.{eq-eqb, ne-eqb, eqb-true, eqb-false, not-true, not-false}
 use lib.Bits.{bitAnd, bitOr}
 use lib.Dec.{eqb}
 use lib.Pow.{pow-pos, pow-mono, pow-lt}
-use Rattle.masks.specs.Sets.{bit, has, Sub, setBelow, setOf, howMany}
-use Rattle.masks.proofs.Decided.{clash, same-bool}
+use Rattle.masks.specs.Sets.{bit, has, Sub, setBelow, setOf, someBelow, within, howMany}
+use Rattle.masks.proofs.Decided.{clash, same-bool, true-or-false, or-true, true-or-l, true-or-r}
 use Rattle.masks.proofs.Digits.{bit-lt, bit-zero, bit-and, bit-or, bit-not, add-pow-below, add-pow-at, bit-high, bits-same, some-bit}
 
 -- ---- membership and the digit
@@ -192,6 +193,47 @@ pub with-if-below : (p : ℕ → Bool) (i m : ℕ) (goes : Bool) → m ≡ setBe
 with-if-below p i m true e l h = with-below p i m e l (sym h)
 with-if-below p i m false e l h =
     with-none m (rw e (lt-of-lt-of-le (below-lt p i) (pow-mono {j = 64} (omega arith)))) ∙ e ∙ below-pass p i (sym h)
+
+-- ---- whether some slot passes
+
+pub some-at : (p : ℕ → Bool) (n i : ℕ) → i < n → p i ≡ true → someBelow p n ≡ true
+unfolding someBelow
+some-at p zero i l e = absurd (omega arith)
+some-at p (suc n) i l e = elim (ℕ-discrete n i) [
+  | yes q ↦ true-or-r (someBelow p n) (subst (λ (k : ℕ). p k ≡ true) (sym q) e)
+  | no d ↦ true-or-l (p n) (some-at p n i (omega arith) e)
+]
+
+pub at-some : (p : ℕ → Bool) (n : ℕ) → someBelow p n ≡ true → (i : ℕ) × (i < n) × (p i ≡ true)
+unfolding someBelow
+at-some p zero e = absurd (clash e refl)
+at-some p (suc n) e =
+    ⊎-elim (λ h. let z = at-some p n h in (z .0, omega (arith, z .1), z .2)) (λ h. (n, omega arith, h)) (or-true (someBelow p n) (p n) e)
+
+pub none-at : (p : ℕ → Bool) (n i : ℕ) → someBelow p n ≡ false → i < n → p i ≡ false
+none-at p n i e l = ⊎-elim (λ h. absurd (clash (some-at p n i l h) e)) (λ h. h) (true-or-false (p i))
+
+pub at-none : (p : ℕ → Bool) (n : ℕ) → ((i : ℕ) → i < n → p i ≡ false) → someBelow p n ≡ false
+at-none p n f = ⊎-elim (λ e. let z = at-some p n e in absurd (clash (z .2) (f (z .0) (z .1)))) (λ e. e) (true-or-false (someBelow p n))
+
+-- a loop over the slots: one more
+pub some-more : (p : ℕ → Bool) (n : ℕ) → someBelow p (n + 1) ≡ (someBelow p n || p n)
+unfolding someBelow
+some-more p n = rw add-one
+
+-- ---- a set within another
+
+pub within-at : (a b i : ℕ) → within a b ≡ true → i < 64 → has a i ≡ true → has b i ≡ true
+within-at a b i w l h = not-false (has b i) (rw h at (none-at (λ k. has a k && not (has b k)) 64 i (not-true _ w) l))
+
+pub at-within : (a b : ℕ) → ((i : ℕ) → i < 64 → has a i ≡ true → has b i ≡ true) → within a b ≡ true
+at-within a b f = ap not (at-none (λ k. has a k && not (has b k)) 64 (λ i l. ⊎-elim (λ h. rw (f i l h, h)) (λ h. rw h) (true-or-false (has a i))))
+
+pub within-sub : (a b : ℕ) → a < 2 ^ 64 → within a b ≡ true → Sub a b
+within-sub a b l w i h = within-at a b i w (has-slot a i l h) h
+
+pub sub-within : (a b : ℕ) → Sub a b → within a b ≡ true
+sub-within a b f = at-within a b (λ i l. f i)
 
 -- ---- how many pass
 

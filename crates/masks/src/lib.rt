@@ -4,7 +4,7 @@
 ghost use mathlib.Core.Path.{_≡_};
 ghost use mathlib.Core.Bool.{_&&_, _||_, not};
 ghost use lib.Dec.{eqb};
-ghost use Rattle.masks.specs.Sets.{has, setOf, Sub, Meet};
+ghost use Rattle.masks.specs.Sets.{has, setOf, within, Meet};
 ghost use Rattle.masks.specs.Decides.{Decides};
 
 // Whether slot i is in the set.
@@ -50,7 +50,7 @@ pub fn without(set: u64, gone: u64) -> u64
 
 // Whether every slot of a is in b.
 pub fn within(a: u64, b: u64) -> bool
-    ensures { λ r. ⌜ Decides (Sub a b) r ⌝ }
+    ensures { λ r. ⌜ r ≡ within a b ⌝ }
 {
     if a & !b == 0 { true } else { false }
 }

@@ -1,14 +1,18 @@
-// The slots with a block's in-flight patches committed: their slots free, and no patch after them.
+// The slots with a set of patches committed: their slots free, and no patch after them.
 ghost use mathlib.Core.Path.{_≡_};
-ghost use Prim.Native.Nat.{ℕ};
-ghost use Rattle.masks.specs.Sets.{setOf};
-ghost use Rattle.rules.specs.Table.{fliesOn};
-ghost use Rattle.rules.specs.Complete.{completedSlots};
-ghost use Rattle.moves.specs.Steps.{landedSlot};
+ghost use Rattle.rules.specs.Slots.{withBefores};
+ghost use Rattle.rules.specs.Complete.{landedSlot, landedSlots};
 use crate::slot::free;
-use crate::slot::with_befores;
 use rules::Slot;
 use slots::words::is_used;
+
+fn with_befores(s: Slot, befores: u64) -> Slot
+    ensures { λ r. ⌜ r ≡ withBefores befores s ⌝ }
+{
+    let mut next = s;
+    next.befores = befores;
+    next
+}
 
 // A slot when the patches of `landed` commit: free where it is one of them. A patch that stays
 // loses them from its befores, and what is left in a free slot stays.
@@ -25,9 +29,9 @@ fn landed_slot(s: Slot, landed: u64, commits: bool) -> Slot
     s
 }
 
-// All slots so; `landed` is the set of a block's patches in flight.
+// All slots so, whichever set it is: complete passes that of a block's patches in flight.
 pub fn completed(slots: [Slot; 64], landed: u64) -> [Slot; 64]
-    ensures { λ r. ⌜ ((b : ℕ) → landed ≡ setOf (fliesOn slots b) → r ≡ completedSlots slots b) ⌝ }
+    ensures { λ r. ⌜ r ≡ landedSlots slots landed ⌝ }
 {
     let mut next = slots;
     for i in 0..64 {

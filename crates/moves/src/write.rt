@@ -1,8 +1,7 @@
 // The slots with a set of patches in flight.
 ghost use mathlib.Core.Path.{_≡_};
 ghost use mathlib.Core.Bool.{true};
-ghost use Rattle.rules.specs.Write.{sentState, sentSlots};
-ghost use Rattle.moves.specs.Steps.{sentSlot};
+ghost use Rattle.rules.specs.Write.{sentState, sentSlot, sentSlots};
 use crate::slot::with_state;
 use rules::Hold;
 use rules::Kind;

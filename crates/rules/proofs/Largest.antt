@@ -4,9 +4,10 @@ use mathlib.Core.Path.{_≡_, sym, _∙_}
 use mathlib.Core.Bool.{true, _||_}
 use mathlib.Core.List.{List}
 use mathlib.Core.Logic.{_⊎_, inl, inr, ⊎-elim}
+use native.Mathlib.Omega.{arith}
 use Rattle.masks.specs.Sets.{has, setOf}
-use Rattle.masks.proofs.Laws.{has-set, has-slot, set-lt, same-sub}
-use Rattle.masks.proofs.Decided.{or-true, true-or-l, true-or-r}
+use Rattle.masks.proofs.Laws.{has-set, has-slot, has-none, set-lt, same-sub}
+use Rattle.masks.proofs.Decided.{clash, or-true, true-or-l, true-or-r}
 use Rattle.rules.specs.declared.Slot.{Slot}
 use Rattle.rules.specs.Write.{MayGo, Largest}
 
@@ -26,11 +27,7 @@ module _ {ss : List Slot} {b : ℕ} where
   union-may-go u v p q = record {
     set = set-lt (λ k. has u k || has v k);
     within = λ i e. ⊎-elim (p .within i) (q .within i) (of-union u v i e);
-    closed = λ i e j h.
-        ⊎-elim
-        (λ m. let g = p .closed i m j h in in-union u v j (has-slot u j (p .set) g) (inl g))
-        (λ m. let g = q .closed i m j h in in-union u v j (has-slot v j (q .set) g) (inr g))
-        (of-union u v i e);
+    closed = λ i j e l h. ⊎-elim (λ m. in-union u v j l (inl (p .closed i j m l h))) (λ m. in-union u v j l (inr (q .closed i j m l h))) (of-union u v i e);
     hards = λ i e h l d.
         ⊎-elim (λ m. in-union u v h l (inl (p .hards i m h l d))) (λ m. in-union u v h l (inr (q .hards i m h l d))) (of-union u v i e);
   }
@@ -38,3 +35,7 @@ module _ {ss : List Slot} {b : ℕ} where
   -- any two largest are equal
   pub largest-one : (u v : ℕ) → Largest ss b u → Largest ss b v → u ≡ v
   largest-one u v p q = same-sub u v (p .goes .set) (q .goes .set) (q .most u (p .goes)) (p .most v (q .goes))
+
+  -- where the largest is empty, only the empty set may go
+  pub largest-empty : Largest ss b 0 → (u : ℕ) → MayGo ss b u → u ≡ 0
+  largest-empty l u m = same-sub u 0 (m .set) (omega arith) (l .most u m) (λ i h. absurd (clash h (has-none i)))

@@ -2,13 +2,17 @@
 pub mod Cases
 pub mod Outcomes
 pub mod SlotsBy
+pub mod After
+pub mod Words
 pub mod Lowest
 pub mod Largest
+pub mod Rounds
 pub mod TakenBack
 pub mod Pins
 pub mod Refused
 pub mod Grants
 pub mod OneAnswer
+pub mod Granted
 pub mod StaysSound
 pub mod SoundCalls
 pub mod Computed

@@ -8,7 +8,7 @@ use Rattle.rules.specs.Table.{Table}
 use Rattle.rules.specs.Create.{Change}
 use Rattle.rules.specs.Calls.{Opening, Opens, Creation, Creates, Writing, Writes, Completion, Completes, Asks, Counts}
 use Rattle.rules.proofs.Outcomes.{outcome-one}
-use Rattle.rules.proofs.Grants.{accepts-one, sends-one, asked-one}
+use Rattle.rules.proofs.Grants.{accepts-one, sends-one, asked-one, counts-one}
 
 pub open-one : (n : ℕ) (o p : Opening) → Opens n o → Opens n p → o ≡ p
 open-one n = outcome-one (λ f o p a b. a ∙ sym b)
@@ -26,4 +26,4 @@ pub ask-one : (t : Table) (n : ℕ) (o p : AskAnswer) → Asks t n o → Asks t 
 ask-one t n = outcome-one (asked-one t n)
 
 pub count-one : (t : Table) (b : ℕ) (o p : CountAnswer) → Counts t b o → Counts t b p → o ≡ p
-count-one t b = outcome-one (λ f o p a c. a ∙ sym c)
+count-one t b = outcome-one (λ f. counts-one t b)

@@ -4,7 +4,7 @@ use mathlib.Core.Path.{refl}
 use mathlib.Core.List.{List, [], _∷_}
 use native.Mathlib.Omega.{arith}
 use lib.ListN.{replicate, length-replicate}
-use Rattle.masks.specs.Sets.{bit, has, setBelow}
+use Rattle.masks.specs.Sets.{bit, has, setBelow, someBelow}
 use Rattle.spans.specs.Spans.{splice}
 use Rattle.rules.specs.declared.Hold.the-variants as hold
 use Rattle.rules.specs.Sizes.{imageBytes, undoBytes, blockBytes, slots}
@@ -12,11 +12,12 @@ use Rattle.rules.specs.Table.{slotsFrom}
 use Rattle.rules.specs.Open.{opened}
 use Rattle.rules.specs.Create.{Change, isIn, befores, patch, acceptedSlots, accepted, changed, kept, HoldOf}
 use Rattle.rules.specs.Write.{takenBack, backNumber, backDown, handedOut, sentSlots, sent}
-use Rattle.rules.specs.Complete.{completedSlots, completed}
+use Rattle.rules.specs.Rounds.{round, rounds}
+use Rattle.rules.specs.Complete.{landedSlots, completedSlots, completed}
 use Rattle.rules.specs.Calls.{createGranted, writeGranted, completeGranted}
 use Rattle.rules.specs.Rows.{Radio, Runs, rowsP1toP10}
 use Rattle.rules.proofs.StaysSound.{opened-sound}
-use Rattle.rules.proofs.Computed.{passesBelow, allIssued, lowest-free, hardTest, hard-tested, held-back, room-free, clearIn, hardsStay, round, rounds}
+use Rattle.rules.proofs.Computed.{allIssued, lowest-free, softTest, hard-tested, held-back, room-free}
 use Rattle.rules.proofs.Steps.{Good, Made, Went, Done, Stayed, afterCreate, afterWrite, afterComplete, inBounds, create-row, write-flies, write-none, write-row, complete-row}
 
 abbrev lent : List ℕ
@@ -44,21 +45,21 @@ abbrev r1 : Radio
 r1 = afterCreate (createGranted (r0 .table) (r0 .image) (r0 .undo) c1 0 hold.Hard)
 
 P1 : Made r0 c1 0 hold.Hard
-unfolding slotsFrom inBounds allIssued passesBelow hardTest has bit
+unfolding slotsFrom inBounds allIssued someBelow softTest has bit
 P1 = create-row r0 g0 c1 0 hold.Hard refl (lowest-free (r0 .table .slots) 0 (omega arith) refl refl) (HoldOf.hard (hard-tested (r0 .table .slots) 1 refl))
 
 abbrev r2 : Radio
 r2 = afterCreate (createGranted (r1 .table) (r1 .image) (r1 .undo) c2 1 hold.Hard)
 
 P2 : Made r1 c2 1 hold.Hard
-unfolding slotsFrom accepted acceptedSlots patch befores isIn setBelow inBounds allIssued passesBelow hardTest has bit
+unfolding slotsFrom accepted acceptedSlots patch befores isIn setBelow inBounds allIssued someBelow softTest has bit
 P2 = create-row r1 (P1 .1) c2 1 hold.Hard refl (lowest-free (r1 .table .slots) 1 (omega arith) refl refl) (HoldOf.hard (hard-tested (r1 .table .slots) 2 refl))
 
 abbrev r3 : Radio
 r3 = afterCreate (createGranted (r2 .table) (r2 .image) (r2 .undo) c3 2 hold.Hard)
 
 P3 : Made r2 c3 2 hold.Hard
-unfolding slotsFrom accepted acceptedSlots patch befores isIn setBelow inBounds allIssued passesBelow hardTest has bit
+unfolding slotsFrom accepted acceptedSlots patch befores isIn setBelow inBounds allIssued someBelow softTest has bit
 P3 = create-row r2 (P2 .1) c3 2 hold.Hard refl (lowest-free (r2 .table .slots) 2 (omega arith) refl refl) (HoldOf.hard (hard-tested (r2 .table .slots) 2 refl))
 
 abbrev r4 : Radio
@@ -66,19 +67,19 @@ r4 = afterCreate (createGranted (r3 .table) (r3 .image) (r3 .undo) c4 3 (hold.So
 
 -- patch 2, in slot 1 on block 2, follows patch 1, in slot 0, which waits on block 1
 P4 : Made r3 c4 3 (hold.Soft 0)
-unfolding slotsFrom accepted acceptedSlots patch befores isIn setBelow inBounds allIssued passesBelow has bit
+unfolding slotsFrom accepted acceptedSlots patch befores isIn setBelow inBounds allIssued someBelow has bit
 P4 =
     create-row r3 (P3 .1) c4 3 (hold.Soft 0) refl (lowest-free (r3 .table .slots) 3 (omega arith) refl refl)
     (HoldOf.soft (held-back (r3 .table .slots) 1 1 0 (omega arith) (omega arith) refl)
     (record { within = omega arith; holds = room-free (r3 .table .slots) 0 refl; least = λ i l. absurd (omega arith) }))
 
 P5 : Stayed r4 lent 2 13
-unfolding slotsFrom accepted acceptedSlots patch befores isIn setBelow passesBelow clearIn hardsStay round rounds has bit
-P5 = write-none r4 (P4 .1) 2 lent (omega arith) refl 2 refl refl refl 1 (omega arith) refl refl
+unfolding slotsFrom accepted acceptedSlots patch befores isIn setBelow someBelow round rounds has bit
+P5 = write-none r4 (P4 .1) 2 lent (omega arith) refl 2 0 refl refl refl 1 (omega arith) refl refl
 
 P6 : Went r4 lent 1 1
-unfolding slotsFrom accepted acceptedSlots patch befores isIn setBelow passesBelow clearIn hardsStay round rounds has bit
-P6 = write-row r4 (P4 .1) 1 lent (omega arith) refl 2 refl refl refl 1 0 refl refl
+unfolding slotsFrom accepted acceptedSlots patch befores isIn setBelow someBelow round rounds has bit
+P6 = write-row r4 (P4 .1) 1 lent (omega arith) refl 2 1 refl refl refl 0 refl
 
 abbrev r6 : Radio
 r6 = afterWrite (writeGranted (r4 .table) (r4 .image) (r4 .undo) 1 1)
@@ -95,30 +96,34 @@ abbrev r8a : Radio
 r8a = afterComplete r6 (completeGranted (r6 .table) 1)
 
 P8b : Went r8a lent 2 6
-unfolding slotsFrom accepted acceptedSlots patch befores isIn setBelow sent sentSlots completed completedSlots passesBelow clearIn hardsStay round rounds has bit
-P8b = write-row r8a (P8a .1) 2 lent (omega arith) refl 1 refl refl refl 6 1 refl refl
+unfolding slotsFrom accepted acceptedSlots patch befores isIn setBelow sent sentSlots
+    completed completedSlots landedSlots someBelow round rounds has bit
+P8b = write-row r8a (P8a .1) 2 lent (omega arith) refl 1 6 refl refl refl 1 refl
 
 abbrev r8 : Radio
 r8 = afterWrite (writeGranted (r8a .table) (r8a .image) (r8a .undo) 2 6)
 
 P9 : Stayed r8 lent 1 13
-unfolding slotsFrom accepted acceptedSlots patch befores isIn setBelow sent sentSlots completed completedSlots passesBelow clearIn hardsStay round rounds has bit
-P9 = write-none r8 (P8b .1) 1 lent (omega arith) refl 2 refl refl refl 3 (omega arith) refl refl
+unfolding slotsFrom accepted acceptedSlots patch befores isIn setBelow sent sentSlots
+    completed completedSlots landedSlots someBelow round rounds has bit
+P9 = write-none r8 (P8b .1) 1 lent (omega arith) refl 2 0 refl refl refl 3 (omega arith) refl refl
 
 P10a : Done r8 2
-unfolding slotsFrom accepted acceptedSlots patch befores isIn setBelow sent sentSlots completed completedSlots has bit
+unfolding slotsFrom accepted acceptedSlots patch befores isIn setBelow sent sentSlots completed completedSlots landedSlots has bit
 P10a = complete-row r8 (P8b .1) 2 1 (omega arith) (omega arith) refl
 
 abbrev r10 : Radio
 r10 = afterComplete r8 (completeGranted (r8 .table) 2)
 
 P10b : Went r10 lent 1 8
-unfolding slotsFrom accepted acceptedSlots patch befores isIn setBelow sent sentSlots completed completedSlots passesBelow clearIn hardsStay round rounds has bit
-P10b = write-row r10 (P10a .1) 1 lent (omega arith) refl 1 refl refl refl 8 3 refl refl
+unfolding slotsFrom accepted acceptedSlots patch befores isIn setBelow sent sentSlots
+    completed completedSlots landedSlots someBelow round rounds has bit
+P10b = write-row r10 (P10a .1) 1 lent (omega arith) refl 1 8 refl refl refl 3 refl
 
 -- the rows, one after the other; the answers and the bytes handed out compute to those of the table
 pub session : Runs r0 rowsP1toP10
-unfolding rowsP1toP10 slotsFrom accepted acceptedSlots patch befores isIn setBelow sent sentSlots completed completedSlots changed kept splice handedOut backDown backNumber takenBack has bit
+unfolding rowsP1toP10 slotsFrom accepted acceptedSlots patch befores isIn setBelow sent sentSlots
+    completed completedSlots landedSlots changed kept splice handedOut backDown backNumber takenBack has bit
 session =
     Runs.creates _ (P1 .0)
     (Runs.creates _ (P2 .0)

@@ -1,30 +1,33 @@
 -- An opened table is sound, and a sound table stays sound under each granted call.
 use Prim.Native.Nat.{ℕ, _+_, _≤_, _<_}
 use mathlib.Core.Path.{_≡_, refl, sym, ap, subst, _∙_}
-use mathlib.Core.Bool.{Bool, true, false, cond, _&&_, _||_, not}
+use mathlib.Core.Bool.{Bool, true, false, cond, _||_, not}
 use mathlib.Core.List.{List}
 use mathlib.Core.Logic.{_⊎_, inl, inr, ⊎-elim}
 use native.Mathlib.Omega.{arith}
 use native.Mathlib.Decide.{ℕ-discrete}
 use borrow.Author.Tests.{eq-eqb, ne-eqb, not-true}
 use lib.Dec.{eqb}
-use lib.ListN.{length}
 use Rattle.masks.specs.Sets.{has, setOf, Sub}
 use Rattle.masks.proofs.Laws.{has-set, has-slot, set-lt}
-use Rattle.masks.proofs.Decided.{clash, true-or-false, and-true, or-true}
+use Rattle.masks.proofs.Decided.{clash, and-true, or-true}
 use Rattle.rules.specs.declared.Hold.{Hold}
 use Rattle.rules.specs.declared.Hold.the-variants as hold
 use Rattle.rules.specs.declared.State.{State}
 use Rattle.rules.specs.declared.State.the-variants as state
 use Rattle.rules.specs.declared.Slot.{Slot}
 use Rattle.rules.specs.Sizes.{blocks, blockBytes, rooms, slots, mostBytes, lastNumber}
-use Rattle.rules.specs.Slots.{isUsed, freeSlot, withState, withBefores}
+use Rattle.rules.specs.Slots.{isUsed, hasRoom, freeSlot, withState}
 use Rattle.rules.specs.Table.{Table, slotAt, slotsBy, withSlots, withNext, used, fliesOn, HasRoom, Sound}
 use Rattle.rules.specs.Open.{opened}
-use Rattle.rules.specs.Create.{Change, Lowest, FreeSlot, FreeRoom, HoldOf, isNamed, overlaps, befores, patch, turned, turnedState, acceptedSlots, accepted}
-use Rattle.rules.specs.Write.{sentState, sentSlots, sent}
-use Rattle.rules.specs.Complete.{remaining, completedSlots, completed}
+use Rattle.rules.specs.Create.{Change, Lowest, FreeSlot, FreeRoom, HoldOf, isNamed, overlaps, befores, patch}
+use Rattle.rules.specs.Create.{turned, turnedState, acceptedSlot, acceptedSlots, accepted}
+use Rattle.rules.specs.Write.{sentState, sentSlot, sentSlots, sent}
+use Rattle.rules.specs.Complete.{withoutBefores, landing, completedSlots, completed}
+use Rattle.rules.proofs.After.{accepted-at, sent-at, completed-at, befores-at}
 use Rattle.rules.proofs.SlotsBy.{slot-by}
+use Rattle.rules.proofs.Words.{has-room-used, room-is, turned-used, turned-room, sent-used, sent-room}
+use Rattle.rules.proofs.Granted.{CreatePassed}
 
 -- the slot n is the slot s, but for its state, where it has no new room, and for befores that it has lost
 pub record Like (n s : Slot) : Type 0 where
@@ -34,20 +37,16 @@ pub record Like (n s : Slot) : Type 0 where
   pub offset : n .offset ≡ s .offset
   pub len : n .len ≡ s .len
   pub befores : Sub (n .befores) (s .befores)
-  pub room : (r : ℕ) → n .state ≡ state.Waiting (hold.Soft r) → s .state ≡ state.Waiting (hold.Soft r)
+  pub room : (r : ℕ) → hasRoom (n .state) r ≡ true → hasRoom (s .state) r ≡ true
 
 pub like-self : (s : Slot) → Like s s
 like-self s = record { used = refl; number = refl; block = refl; offset = refl; len = refl; befores = λ i h. h; room = λ r e. e }
 
 -- a slot with another state, where that is in use as before and has no new room
 state-like : (b : Bool) (u : State) (s : Slot) → isUsed u ≡ isUsed (s .state)
-    → ((r : ℕ) → u ≡ state.Waiting (hold.Soft r) → s .state ≡ state.Waiting (hold.Soft r)) → Like (cond b (withState u s) s) s
+    → ((r : ℕ) → hasRoom u r ≡ true → hasRoom (s .state) r ≡ true) → Like (cond b (withState u s) s) s
 state-like true u s e f = record { used = e; number = refl; block = refl; offset = refl; len = refl; befores = λ i h. h; room = f }
 state-like false u s e f = like-self s
-
--- a patch with a room is in use
-pub roomed-used : (ss : List Slot) (i r : ℕ) → HasRoom ss i r → used ss i ≡ true
-roomed-used ss i r e = ap isUsed e
 
 -- slots that are each free, or as they were but for state and befores, stay sound
 module _ (t : Table) (s : Sound t) (ss : List Slot)
@@ -74,8 +73,8 @@ module _ (t : Table) (s : Sound t) (ss : List Slot)
     ends = λ i l u. let k = like i l u in omega (arith, s .ends i l (was-used i l u), k .offset, k .len);
     befores-used = followed;
     befores-other = λ i l u h. s .befores-other i l (was-used i l u) (like i l u .befores i h);
-    room-most = λ i r l h. s .room-most i r l (like i l (roomed-used ss i r h) .room r h);
-    rooms-differ = λ i j r l m h k. s .rooms-differ i j r l m (like i l (roomed-used ss i r h) .room r h) (like j m (roomed-used ss j r k) .room r k);
+    room-most = λ i r l h. s .room-most i r l (like i l (has-room-used ss i r h) .room r h);
+    rooms-differ = λ i j r l m h k. s .rooms-differ i j r l m (like i l (has-room-used ss i r h) .room r h) (like j m (has-room-used ss j r k) .room r k);
   }
 
 -- ---- open
@@ -95,8 +94,8 @@ opened-sound n a b = record {
   ends = λ i l u. absurd (none i l u);
   befores-used = λ i j l m u h. absurd (none i l u);
   befores-other = λ i l u h. none i l u;
-  room-most = λ i r l h. absurd (none i l (roomed-used (slotsBy (λ i. freeSlot)) i r h));
-  rooms-differ = λ i j r l m h k. absurd (none i l (roomed-used (slotsBy (λ i. freeSlot)) i r h));
+  room-most = λ i r l h. absurd (none i l (has-room-used (slotsBy (λ i. freeSlot)) i r h));
+  rooms-differ = λ i j r l m h k. absurd (none i l (has-room-used (slotsBy (λ i. freeSlot)) i r h));
 }
   where
     none : (i : ℕ) → i < slots → used (slotsBy (λ i. freeSlot)) i ≡ true → ⊥
@@ -104,60 +103,46 @@ opened-sound n a b = record {
 
 -- ---- write
 
-sent-used : (u : State) → isUsed (sentState u) ≡ isUsed u
-sent-used state.Free = refl
-sent-used (state.Waiting h) = refl
-sent-used (state.InFlight k) = refl
-
-sent-roomless : (u : State) (r : ℕ) → sentState u ≡ state.Waiting (hold.Soft r) → u ≡ state.Waiting (hold.Soft r)
-sent-roomless state.Free r e = e
-sent-roomless (state.Waiting h) r e = absurd (let z : _≡_ {A = ℕ} 0 1 = cc in omega arith)
-sent-roomless (state.InFlight k) r e = e
+pub sent-like : (goes : Bool) (s : Slot) → Like (sentSlot goes s) s
+sent-like goes s = state-like goes (sentState (s .state)) s (sent-used (s .state)) (sent-room (s .state))
 
 pub sent-sound : (t : Table) (set : ℕ) → Sound t → Sound (sent t set)
-unfolding sent sentSlots
+unfolding sent
 sent-sound t set s =
     keeps-sound t s (sentSlots (t .slots) set) (λ i l. inr (each i l))
     (λ i k l m u h. each k m .used ∙ s .befores-used i k l m (sym (each i l .used) ∙ u) (each i l .befores k h))
   where
     each : (i : ℕ) → i < slots → Like (slotAt (sentSlots (t .slots) set) i) (slotAt (t .slots) i)
-    each i l =
-        subst (λ (n : Slot). Like n (slotAt (t .slots) i))
-        (sym (slot-by (λ i. cond (has set i) (withState (sentState (slotAt (t .slots) i .state)) (slotAt (t .slots) i)) (slotAt (t .slots) i)) i l))
-        (state-like (has set i) (sentState (slotAt (t .slots) i .state)) (slotAt (t .slots) i) (sent-used (slotAt (t .slots) i .state)) (sent-roomless (slotAt (t .slots) i .state)))
+    each i l = subst (λ (n : Slot). Like n (slotAt (t .slots) i)) (sym (sent-at (t .slots) set i l)) (sent-like (has set i) (slotAt (t .slots) i))
 
 -- ---- complete
 
 -- what a completed block's slot is: free where its patch commits, else as it was without the patches that commit
 pub data Finished (ss : List Slot) (b i : ℕ) (n : Slot) : Type 0 where
   commits : fliesOn ss b i ≡ true → n ≡ freeSlot → Finished ss b i n
-  stays : fliesOn ss b i ≡ false → used ss i ≡ true → n ≡ withBefores (remaining ss b i) (slotAt ss i) → Finished ss b i n
+  stays : fliesOn ss b i ≡ false → used ss i ≡ true → n ≡ withoutBefores (landing ss b) (slotAt ss i) → Finished ss b i n
   was-free : fliesOn ss b i ≡ false → used ss i ≡ false → n ≡ slotAt ss i → Finished ss b i n
 
 pub finished : (ss : List Slot) (b i : ℕ) → i < slots → Finished ss b i (slotAt (completedSlots ss b) i)
-unfolding completedSlots
-finished ss b i l = go (true-or-false (fliesOn ss b i)) (true-or-false (used ss i))
+finished ss b i l = subst (Finished ss b i) (sym (completed-at ss b i l)) (go (fliesOn ss b i) (used ss i) refl refl)
   where
-    f : ℕ → Slot
-    f i = cond (fliesOn ss b i) freeSlot (cond (used ss i) (withBefores (remaining ss b i) (slotAt ss i)) (slotAt ss i))
+    go : (f u : Bool) → fliesOn ss b i ≡ f → used ss i ≡ u
+        → Finished ss b i (cond f freeSlot (cond u (withoutBefores (landing ss b) (slotAt ss i)) (slotAt ss i)))
+    go true u p q = commits p refl
+    go false true p q = stays p q refl
+    go false false p q = was-free p q refl
 
-    go : (fliesOn ss b i ≡ true) ⊎ (fliesOn ss b i ≡ false) → (used ss i ≡ true) ⊎ (used ss i ≡ false) → Finished ss b i (slotAt (completedSlots ss b) i)
-    go (inl p) q = commits p (slot-by f i l ∙ ap (λ (x : Bool). cond x freeSlot (cond (used ss i) (withBefores (remaining ss b i) (slotAt ss i)) (slotAt ss i))) p)
-    go (inr p) (inl q) =
-        stays p q (slot-by f i l ∙ ap (λ (x : Bool). cond x freeSlot (cond (used ss i) (withBefores (remaining ss b i) (slotAt ss i)) (slotAt ss i))) p ∙ ap (λ (x : Bool). cond x (withBefores (remaining ss b i) (slotAt ss i)) (slotAt ss i)) q)
-    go (inr p) (inr q) =
-        was-free p q (slot-by f i l ∙ ap (λ (x : Bool). cond x freeSlot (cond (used ss i) (withBefores (remaining ss b i) (slotAt ss i)) (slotAt ss i))) p ∙ ap (λ (x : Bool). cond x (withBefores (remaining ss b i) (slotAt ss i)) (slotAt ss i)) q)
-
--- a slot of the befores that remain was among them, and does not commit
-pub remaining-was : (ss : List Slot) (b i k : ℕ) → has (remaining ss b i) k ≡ true → (has (slotAt ss i .befores) k ≡ true) × (fliesOn ss b k ≡ false)
-remaining-was ss b i k h =
-    let p : ℕ → Bool = λ k. has (slotAt ss i .befores) k && not (fliesOn ss b k) in
-    let w = and-true (has (slotAt ss i .befores) k) (not (fliesOn ss b k)) (sym (has-set p k (has-slot (setOf p) k (set-lt p) h)) ∙ h) in
+-- a slot among the befores afterwards was among them, and does not commit
+remaining-was : (ss : List Slot) (b : ℕ) (s : Slot) (k : ℕ)
+    → has (withoutBefores (landing ss b) s .befores) k ≡ true → (has (s .befores) k ≡ true) × (fliesOn ss b k ≡ false)
+remaining-was ss b s k h =
+    let l = has-slot (withoutBefores (landing ss b) s .befores) k (set-lt _) h in
+    let w = and-true (has (s .befores) k) (not (fliesOn ss b k)) (sym (befores-at ss b s k l) ∙ h) in
     (w .0, not-true (fliesOn ss b k) (w .1))
 
-remaining-like : (ss : List Slot) (b i : ℕ) → Like (withBefores (remaining ss b i) (slotAt ss i)) (slotAt ss i)
-remaining-like ss b i =
-    record { used = refl; number = refl; block = refl; offset = refl; len = refl; befores = λ k h. remaining-was ss b i k h .0; room = λ r e. e }
+pub remaining-like : (ss : List Slot) (b : ℕ) (s : Slot) → Like (withoutBefores (landing ss b) s) s
+remaining-like ss b s =
+    record { used = refl; number = refl; block = refl; offset = refl; len = refl; befores = λ k h. remaining-was ss b s k h .0; room = λ r e. e }
 
 pub completed-sound : (t : Table) (b : ℕ) → Sound t → Sound (completed t b)
 unfolding completed
@@ -168,7 +153,7 @@ completed-sound t b s = keeps-sound t s ss (λ i l. fate i (finished (t .slots) 
 
     fate : (i : ℕ) → Finished (t .slots) b i (slotAt ss i) → (used ss i ≡ false) ⊎ Like (slotAt ss i) (slotAt (t .slots) i)
     fate i (commits f e) = inl (ap (λ (s : Slot). isUsed (s .state)) e)
-    fate i (stays f u e) = inr (subst (λ (n : Slot). Like n (slotAt (t .slots) i)) (sym e) (remaining-like (t .slots) b i))
+    fate i (stays f u e) = inr (subst (λ (n : Slot). Like n (slotAt (t .slots) i)) (sym e) (remaining-like (t .slots) b (slotAt (t .slots) i)))
     fate i (was-free f u e) = inl (ap (λ (s : Slot). isUsed (s .state)) e ∙ u)
 
     used-after : (k : ℕ) → fliesOn (t .slots) b k ≡ false → used (t .slots) k ≡ true → Finished (t .slots) b k (slotAt ss k) → used ss k ≡ true
@@ -180,7 +165,7 @@ completed-sound t b s = keeps-sound t s ss (λ i l. fate i (finished (t .slots) 
         → Finished (t .slots) b i (slotAt ss i) → Finished (t .slots) b k (slotAt ss k) → used ss k ≡ true
     still i k l m u h (commits f e) g = absurd (clash u (ap (λ (s : Slot). isUsed (s .state)) e))
     still i k l m u h (stays f v e) g =
-        let w = remaining-was (t .slots) b i k (subst (λ (n : Slot). has (n .befores) k ≡ true) e h) in
+        let w = remaining-was (t .slots) b (slotAt (t .slots) i) k (subst (λ (n : Slot). has (n .befores) k ≡ true) e h) in
         used-after k (w .1) (s .befores-used i k l m v (w .0)) g
     still i k l m u h (was-free f v e) g = absurd (clash u (ap (λ (s : Slot). isUsed (s .state)) e ∙ v))
 
@@ -196,7 +181,7 @@ pub record Fit (t : Table) (p : Slot) : Type 0 where
   pub len-most : p .len ≤ mostBytes
   pub ends : p .offset + p .len ≤ blockBytes
   pub befores : (k : ℕ) → k < slots → has (p .befores) k ≡ true → isUsed (slotAt (t .slots) k .state) ≡ true
-  pub room : (r : ℕ) → p .state ≡ state.Waiting (hold.Soft r) → (r < rooms) × FreeRoom (t .slots) r
+  pub room : (r : ℕ) → hasRoom (p .state) r ≡ true → (r < rooms) × FreeRoom (t .slots) r
 
 -- slots that are as they were, but for a patch that fits in one that was free, stay sound
 module _ (t : Table) (s : Sound t) (ss : List Slot) (j : ℕ) (p : Slot) (jl : j < slots) (free : used (t .slots) j ≡ false) (fit : Fit t p)
@@ -239,34 +224,16 @@ module _ (t : Table) (s : Sound t) (ss : List Slot) (j : ℕ) (p : Slot) (jl : j
         (λ d u h. still-used k m (s .befores-used i k l m u h));
     befores-other = λ i l.
         each (λ i n. isUsed (n .state) ≡ true → has (n .befores) i ≡ true → ⊥) i l (λ u h. clash (fit .befores j jl h) free) (λ d u. s .befores-other i l u);
-    room-most = λ i r l. each (λ i n. n .state ≡ state.Waiting (hold.Soft r) → r < rooms) i l (λ h. fit .room r h .0) (λ d h. s .room-most i r l h);
+    room-most = λ i r l. each (λ i n. hasRoom (n .state) r ≡ true → r < rooms) i l (λ h. fit .room r h .0) (λ d h. s .room-most i r l h);
     rooms-differ = λ i k r l m.
-        each (λ i n. n .state ≡ state.Waiting (hold.Soft r) → HasRoom ss k r → i ≡ k) i l
-        (λ h. each (λ k n. n .state ≡ state.Waiting (hold.Soft r) → j ≡ k) k m (λ g. refl) (λ d g. absurd (fit .room r h .1 k m g)))
-        (λ d h. each (λ k n. n .state ≡ state.Waiting (hold.Soft r) → i ≡ k) k m (λ g. absurd (fit .room r g .1 i l h)) (λ c g. s .rooms-differ i k r l m h g));
+        each (λ i n. hasRoom (n .state) r ≡ true → HasRoom ss k r → i ≡ k) i l
+        (λ h. each (λ k n. hasRoom (n .state) r ≡ true → j ≡ k) k m (λ g. refl) (λ d g. absurd (fit .room r h .1 k m g)))
+        (λ d h. each (λ k n. hasRoom (n .state) r ≡ true → i ≡ k) k m (λ g. absurd (fit .room r g .1 i l h)) (λ c g. s .rooms-differ i k r l m h g));
   }
 
-turned-used : (u : State) → isUsed (turnedState u) ≡ isUsed u
-turned-used state.Free = refl
-turned-used (state.Waiting h) = refl
-turned-used (state.InFlight k) = refl
-
-turned-roomless : (u : State) (r : ℕ) → turnedState u ≡ state.Waiting (hold.Soft r) → u ≡ state.Waiting (hold.Soft r)
-turned-roomless state.Free r e = e
-turned-roomless (state.Waiting h) r e = absurd (let z : _≡_ {A = ℕ} 0 1 = cc in omega arith)
-turned-roomless (state.InFlight k) r e = e
-
-turned-like : (h : Hold) (b : ℕ) (s : Slot) → Like (turned h b s) s
-turned-like hold.Hard b s = state-like (eqb (s .block) b) (turnedState (s .state)) s (turned-used (s .state)) (turned-roomless (s .state))
+pub turned-like : (h : Hold) (b : ℕ) (s : Slot) → Like (turned h b s) s
+turned-like hold.Hard b s = state-like (eqb (s .block) b) (turnedState (s .state)) s (turned-used (s .state)) (turned-room (s .state))
 turned-like (hold.Soft r) b s = like-self s
-
--- what create has found when no refusal holds
-pub record Valid (t : Table) (c : Change) : Type 0 where
-  pub block : c .block < blocks
-  pub len-least : 1 ≤ length (c .bytes)
-  pub len-most : length (c .bytes) ≤ mostBytes
-  pub ends : c .offset + length (c .bytes) ≤ blockBytes
-  pub last : t .next ≤ lastNumber
 
 -- a slot among the befores of a new patch is in use
 pub befores-are-used : (ss : List Slot) (c : Change) (k : ℕ) → has (befores ss c) k ≡ true → used ss k ≡ true
@@ -277,23 +244,30 @@ befores-are-used ss c k h =
     (or-true (isNamed ss c k) (overlaps ss c k) (sym (has-set p k (has-slot (setOf p) k (set-lt p) h)) ∙ h))
 
 -- the room of a new patch is a free one
-new-room : (ss : List Slot) (b : ℕ) (h : Hold) → HoldOf ss b h → (r : ℕ) → state.Waiting h ≡ state.Waiting (hold.Soft r) → (r < rooms) × FreeRoom ss r
-new-room ss b h (HoldOf.hard w) r e = absurd (let z : _≡_ {A = ℕ} 0 1 = cc in omega arith)
-new-room ss b h (HoldOf.soft {r = q} w low) r e = let z : q ≡ r = cc in subst (λ (x : ℕ). (x < rooms) × FreeRoom ss x) z (low .within, low .holds)
+new-room : (ss : List Slot) (b : ℕ) (h : Hold) → HoldOf ss b h → (r : ℕ) → hasRoom (state.Waiting h) r ≡ true → (r < rooms) × FreeRoom ss r
+new-room ss b h (HoldOf.hard w) r e = absurd (clash e refl)
+new-room ss b h (HoldOf.soft {r = q} w low) r e =
+    subst (λ (x : ℕ). (x < rooms) × FreeRoom ss x) (room-is (state.Waiting (hold.Soft q)) r e) (low .within, low .holds)
 
-pub accepted-sound : (t : Table) (c : Change) (j : ℕ) (h : Hold) → Sound t → Valid t c → Lowest slots (FreeSlot (t .slots)) j → HoldOf (t .slots) (c .block) h → Sound (accepted t c j h)
-unfolding accepted acceptedSlots patch
-accepted-sound t c j h s v low held =
-    adds-sound (withSlots (slotsBy g) t) (keeps-sound t s (slotsBy g) (λ i l. inr (like i l)) (λ i k l m u b. like k m .used ∙ s .befores-used i k l m (sym (like i l .used) ∙ u) (like i l .befores k b)))
-    (slotsBy f) j (patch t c h) (low .within) (like j (low .within) .used ∙ low .holds) fit
-    (slot-by f j (low .within) ∙ ap (λ (x : Bool). cond x (patch t c h) (g j)) (eq-eqb j j refl))
-    (λ i l d. slot-by f i l ∙ ap (λ (x : Bool). cond x (patch t c h) (g i)) (ne-eqb i j d) ∙ sym (slot-by g i l))
+pub accepted-sound : (t : Table) (image undo : List ℕ) (c : Change) (j : ℕ) (h : Hold) → CreatePassed t image undo c → Lowest slots (FreeSlot (t .slots)) j
+    → HoldOf (t .slots) (c .block) h → Sound (accepted t c j h)
+unfolding accepted patch
+accepted-sound t image undo c j h v low held =
+    adds-sound (withSlots (slotsBy g) t)
+    (keeps-sound t s (slotsBy g) (λ i l. inr (like i l))
+    (λ i k l m u b. like k m .used ∙ s .befores-used i k l m (sym (like i l .used) ∙ u) (like i l .befores k b)))
+    (acceptedSlots (t .slots) (patch t c h) j h) j (patch t c h) (low .within) (like j (low .within) .used ∙ low .holds) fit
+    (at j (low .within) ∙ ap (λ (here : Bool). acceptedSlot (patch t c h) h here (slotAt (t .slots) j)) (eq-eqb j j refl))
+    (λ i l d. at i l ∙ ap (λ (here : Bool). acceptedSlot (patch t c h) h here (slotAt (t .slots) i)) (ne-eqb i j d) ∙ sym (slot-by g i l))
   where
+    s : Sound t
+    s = v .sound
+
+    at : (i : ℕ) → i < slots → slotAt (acceptedSlots (t .slots) (patch t c h) j h) i ≡ acceptedSlot (patch t c h) h (eqb i j) (slotAt (t .slots) i)
+    at = accepted-at (t .slots) (patch t c h) j h
+
     g : ℕ → Slot
     g i = turned h (c .block) (slotAt (t .slots) i)
-
-    f : ℕ → Slot
-    f i = cond (eqb i j) (patch t c h) (g i)
 
     like : (i : ℕ) → i < slots → Like (slotAt (slotsBy g) i) (slotAt (t .slots) i)
     like i l = subst (λ (n : Slot). Like n (slotAt (t .slots) i)) (sym (slot-by g i l)) (turned-like h (c .block) (slotAt (t .slots) i))
@@ -303,7 +277,7 @@ accepted-sound t c j h s v low held =
       used = refl;
       number = refl;
       last = v .last;
-      block = v .block;
+      block = v .is-block;
       len-least = v .len-least;
       len-most = v .len-most;
       ends = v .ends;

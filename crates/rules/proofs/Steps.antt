@@ -1,31 +1,34 @@
 -- A call on concrete tables, from tests that compute: what each row of the worked session is shown with.
-use Prim.Native.Nat.{ℕ, _+_, _<_, _≤_, _^_}
-use mathlib.Core.Path.{_≡_, refl, sym, subst, _∙_}
-use mathlib.Core.Bool.{Bool, true, false, _&&_, not}
+use Prim.Native.Nat.{ℕ, _+_, _<_, _≤_}
+use mathlib.Core.Path.{_≡_, refl, sym, ap, subst, _∙_}
+use mathlib.Core.Bool.{Bool, true, false, _&&_}
 use mathlib.Core.List.{List}
-use mathlib.Core.Logic.{_⊎_, inl, inr, ⊎-elim}
+use mathlib.Core.Logic.{_⊎_, ⊎-elim}
 use native.Mathlib.Omega.{arith}
-use borrow.Author.Tests.{leb-true, ltb-true, not-true}
+use borrow.Author.Tests.{leb-true, ltb-true}
 use lib.Dec.{leb, ltb}
 use lib.ListN.{length}
-use Rattle.masks.specs.Sets.{has}
-use Rattle.masks.proofs.Laws.{has-none, no-member, has-slot}
-use Rattle.masks.proofs.Decided.{clash, and-true, true-or-false}
+use Rattle.masks.specs.Sets.{has, someBelow}
+use Rattle.masks.proofs.Laws.{has-none, has-slot, none-at}
+use Rattle.masks.proofs.Decided.{clash, and-true}
 use Rattle.spans.proofs.Laws.{length-splice}
 use Rattle.rules.specs.declared.Hold.{Hold}
 use Rattle.rules.specs.declared.Hold.the-variants as hold
 use Rattle.rules.specs.declared.Slot.{Slot}
 use Rattle.rules.specs.Sizes.{blocks, blockBytes, imageBytes, undoBytes, slots, mostBytes, mostNamed, lastNumber}
-use Rattle.rules.specs.Table.{Table, slotAt, fliesOn, waitsOn, Sound}
+use Rattle.rules.specs.Table.{Table, fliesOn, waitsOn, Sound}
 use Rattle.rules.specs.Create.{Change, Lowest, FreeSlot, HoldOf, changed, kept}
 use Rattle.rules.specs.Write.{Largest}
-use Rattle.rules.specs.Refusals.{NoRoom}
+use Rattle.rules.specs.Rounds.{round, rounds}
+use Rattle.rules.specs.Refusals.{NoRoom, Flies}
 use Rattle.rules.specs.Calls.{Opens, openGranted, Creation, Creates, createGranted, Writing, Writes, writeGranted, writeRefused, Completion, Completes, completeGranted}
 use Rattle.rules.specs.Rows.{Radio}
 use Rattle.rules.proofs.Cases.{holds, passes, none-holds}
 use Rattle.rules.proofs.Outcomes.{refuses, grants}
 use Rattle.rules.proofs.SoundCalls.{create-sound, write-sound, complete-sound}
-use Rattle.rules.proofs.Computed.{passesBelow, passes-at, allIssued, names-issued, round, rounds, rounds-largest}
+use Rattle.rules.proofs.Computed.{allIssued, names-issued}
+use Rattle.rules.proofs.Largest.{largest-empty}
+use Rattle.rules.proofs.Rounds.{hardSet, waitingSet, rounds-largest}
 
 -- a sound table and buffers of their sizes
 pub record Good (r : Radio) : Type 0 where
@@ -106,7 +109,7 @@ module _ (r : Radio) (g : Good r) where
       (passes (room-for (r .table .slots) c h held)
       none-holds))))))))))
       refl
-      (record { slot = j; hold = h; lowest = low; hard-or-soft = held; whole = refl })
+      (record { slot = j; hold = h; lowest = low; hard-or-soft = held; number = refl; says = refl; whole = refl })
 
   good-created : (c : Change) (o : Creation) → Creates (r .table) (r .image) (r .undo) c o → length (o .image) ≡ length (r .image) → length (o .undo) ≡ length (r .undo) → Good (afterCreate o)
   good-created c o p i u = record { sound = create-sound (r .table) (r .image) (r .undo) c o (g .sound) p; image-whole = i ∙ g .image-whole; undo-whole = u ∙ g .undo-whole }
@@ -121,8 +124,8 @@ module _ (r : Radio) (g : Good r) where
 
   -- ---- write
 
-  flies-not : (b : ℕ) → passesBelow (λ i. not (fliesOn (r .table .slots) b i)) slots ≡ true → (i : ℕ) × (i < slots) × (fliesOn (r .table .slots) b i ≡ true) → ⊥
-  flies-not b e f = clash (f .2) (not-true (fliesOn (r .table .slots) b (f .0)) (passes-at (λ i. not (fliesOn (r .table .slots) b i)) slots (f .0) e (f .1)))
+  flies-not : (b : ℕ) → someBelow (fliesOn (r .table .slots) b) slots ≡ false → Flies (r .table .slots) b → ⊥
+  flies-not b e f = clash (f .2) (none-at (fliesOn (r .table .slots) b) slots (f .0) e (f .1))
 
   module _ (b : ℕ) (lent : List ℕ) (is-block : b < blocks) (whole : length lent ≡ blockBytes) where
     -- refused 11
@@ -136,15 +139,17 @@ module _ (r : Radio) (g : Good r) where
         (holds (i, l, f)))))
         refl (λ e. omega arith)
 
-    module _ (n : ℕ) (small : passesBelow (λ i. ltb (slotAt (r .table .slots) i .befores) (2 ^ 64)) slots ≡ true)
-        (still : passesBelow (λ i. not (fliesOn (r .table .slots) b i)) slots ≡ true)
-        (settled : round (r .table .slots) b (rounds (r .table .slots) b n) ≡ rounds (r .table .slots) b n) where
-      largest : Largest (r .table .slots) b (rounds (r .table .slots) b n)
-      largest = rounds-largest (r .table .slots) b (λ i l. ltb-true _ _ (passes-at (λ i. ltb (slotAt (r .table .slots) i .befores) (2 ^ 64)) slots i small l)) n settled
+    -- n rounds, after which none strikes
+    module _ (n s : ℕ) (still : someBelow (fliesOn (r .table .slots) b) slots ≡ false)
+        (searches : rounds (r .table .slots) (hardSet (r .table .slots) b) n (waitingSet (r .table .slots) b) ≡ s)
+        (settled : round (r .table .slots) (hardSet (r .table .slots) b) s ≡ s) where
+      largest : Largest (r .table .slots) b s
+      largest =
+          subst (Largest (r .table .slots) b) searches
+          (rounds-largest (r .table .slots) b n (ap (round (r .table .slots) (hardSet (r .table .slots) b)) searches ∙ settled ∙ sym searches))
 
       -- refused 13
-      pub write-none : (i : ℕ) → i < slots → waitsOn (r .table .slots) b i ≡ true → rounds (r .table .slots) b n ≡ 0
-          → Stayed r lent b 13
+      pub write-none : (i : ℕ) → i < slots → waitsOn (r .table .slots) b i ≡ true → s ≡ 0 → Stayed r lent b 13
       write-none i l w z =
           refuses 13
           (passes (⊎-elim (λ n. n (g .image-whole)) (⊎-elim (λ n. n (g .undo-whole)) (λ n. n whole)))
@@ -152,21 +157,20 @@ module _ (r : Radio) (g : Good r) where
           (passes (λ l. omega arith)
           (passes (flies-not b still)
           (passes (λ n. n (i, l, w))
-          (holds ((i, l, w), λ s m. no-member s (m .set) (λ k q. nowhere s k (true-or-false (has s k)) (λ h. clash (subst (λ (x : ℕ). has x k ≡ true) z (largest .most s m k h)) (has-none k))))))))))
+          (holds ((i, l, w), largest-empty (subst (Largest (r .table .slots) b) z largest))))))))
           refl (λ e. omega arith)
-        where
-          nowhere : (s k : ℕ) → (has s k ≡ true) ⊎ (has s k ≡ false) → (has s k ≡ true → ⊥) → has s k ≡ false
-          nowhere s k (inl h) f = absurd (f h)
-          nowhere s k (inr h) f = h
 
       -- granted
-      pub write-row : (s i : ℕ) → rounds (r .table .slots) b n ≡ s → has s i ≡ true
-          → Went r lent b s
-      write-row s i z h = (p, record { sound = write-sound (r .table) (r .image) (r .undo) lent b (writeGranted (r .table) (r .image) (r .undo) b s) (g .sound) p; image-whole = g .image-whole; undo-whole = g .undo-whole })
+      pub write-row : (i : ℕ) → has s i ≡ true → Went r lent b s
+      write-row i h = (
+        p,
+        record {
+          sound = write-sound (r .table) (r .image) (r .undo) lent b (writeGranted (r .table) (r .image) (r .undo) b s) (g .sound) p;
+          image-whole = g .image-whole;
+          undo-whole = g .undo-whole;
+        },
+      )
         where
-          most : Largest (r .table .slots) b s
-          most = subst (Largest (r .table .slots) b) z largest
-
           p : Writes (r .table) (r .image) (r .undo) lent b (writeGranted (r .table) (r .image) (r .undo) b s)
           p =
               grants (writeGranted (r .table) (r .image) (r .undo) b s)
@@ -174,11 +178,11 @@ module _ (r : Radio) (g : Good r) where
               (passes (λ n. n (g .sound))
               (passes (λ l. omega arith)
               (passes (flies-not b still)
-              (passes (λ n. n (i, has-slot s i (most .goes .set) h, most .goes .within i h))
-              (passes (λ e. clash h (subst (λ (x : ℕ). has x i ≡ false) (sym (e .1 s (most .goes))) (has-none i)))
+              (passes (λ n. n (i, has-slot s i (largest .goes .set) h, largest .goes .within i h))
+              (passes (λ e. clash h (subst (λ (x : ℕ). has x i ≡ false) (sym (e .1 s (largest .goes))) (has-none i)))
               none-holds))))))
               refl
-              (record { set = s; largest = most; whole = refl })
+              (record { largest = largest; whole = refl })
 
   -- ---- complete
   pub complete-row : (b i : ℕ) → b < blocks → i < slots → fliesOn (r .table .slots) b i ≡ true

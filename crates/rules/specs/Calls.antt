@@ -20,7 +20,7 @@ use Rattle.rules.specs.Open.{opened}
 use Rattle.rules.specs.Create.{Change, Lowest, FreeSlot, HoldOf, accepted, changed, kept}
 use Rattle.rules.specs.Write.{Largest, handedOut, sent}
 use Rattle.rules.specs.Complete.{completed}
-use Rattle.rules.specs.Ask.{Asked}
+use Rattle.rules.specs.Ask.{askWord, Asked}
 use Rattle.rules.specs.Count.{waitingOn}
 use Rattle.rules.specs.Refusals.{Case, First, openCases, createCases, writeCases, completeCases, askCases, countCases}
 
@@ -78,12 +78,14 @@ createGranted t image undo c j h = record {
   undo = kept undo image c h;
 }
 
--- the new patch gets the lowest free slot
+-- the new patch gets the lowest free slot and the number next; the answer gives the number and says hard or soft
 pub record Accepts (t : Table) (image undo : List ℕ) (c : Change) (o : Creation) : Type 0 where
   pub slot : ℕ
   pub hold : Hold
   pub lowest : Lowest slots (FreeSlot (t .slots)) slot
   pub hard-or-soft : HoldOf (t .slots) (c .block) hold
+  pub number : patchNumber (o .answer) ≡ t .next
+  pub says : hardOrSoft (o .answer) ≡ some hold
   pub whole : o ≡ createGranted t image undo c slot hold
 
 abbrev pub Creates : Table → List ℕ → List ℕ → Change → Creation → Type 0
@@ -117,11 +119,10 @@ writeGranted t image undo b s = record {
   block = handedOut t b s image undo;
 }
 
--- the largest set that may go, goes
+-- the largest set that may go, goes, and is the answer
 pub record Sends (t : Table) (image undo : List ℕ) (b : ℕ) (o : Writing) : Type 0 where
-  pub set : ℕ
-  pub largest : Largest (t .slots) b set
-  pub whole : o ≡ writeGranted t image undo b set
+  pub largest : Largest (t .slots) b (sentSet (o .answer))
+  pub whole : o ≡ writeGranted t image undo b (sentSet (o .answer))
 
 abbrev pub Writes : Table → List ℕ → List ℕ → List ℕ → ℕ → Writing → Type 0
 Writes t image undo block b =
@@ -141,7 +142,7 @@ completeGranted t b = record { answer = plain.Granted; table = completed t b }
 abbrev pub Completes : Table → ℕ → Completion → Type 0
 Completes t b = Outcome (completeCases t b) (λ o. plainNumber (o .answer)) (completeRefused t) (λ o. o ≡ completeGranted t b)
 
--- ASK. The paper's number for each case of its answer; the three others are its words
+-- ASK. The paper's number for each case of its answer; the three words are in Ask.antt
 abbrev pub askNumber : AskAnswer → ℕ
 askNumber ask.Waiting = 0
 askNumber ask.InFlight = 0
@@ -149,7 +150,7 @@ askNumber ask.Committed = 0
 askNumber (ask.Refused k) = k
 
 abbrev pub Asks : Table → ℕ → AskAnswer → Type 0
-Asks t n = Outcome (askCases t n) askNumber ask.Refused (Asked t n)
+Asks t n = Outcome (askCases t n) askNumber ask.Refused (λ a. Asked t n (askWord a))
 
 -- COUNT. The paper's refusal number and the count, for each case of its answer
 abbrev pub countNumber : CountAnswer → ℕ
@@ -160,5 +161,10 @@ abbrev pub counted : CountAnswer → ℕ
 counted (count.Granted n) = n
 counted (count.Refused k) = 0
 
+-- the number of the block's waiting patches is the answer
+pub record CountsWaiting (t : Table) (b : ℕ) (a : CountAnswer) : Type 0 where
+  pub says : counted a ≡ waitingOn (t .slots) b
+  pub whole : a ≡ count.Granted (counted a)
+
 abbrev pub Counts : Table → ℕ → CountAnswer → Type 0
-Counts t b = Outcome (countCases t b) countNumber count.Refused (λ a. a ≡ count.Granted (waitingOn (t .slots) b))
+Counts t b = Outcome (countCases t b) countNumber count.Refused (CountsWaiting t b)

@@ -85,9 +85,13 @@ turned (hold.Soft r) b s = s
 unfoldable pub patch : Table → Change → Hold → Slot
 patch t c h = record { state = state.Waiting h; number = t .next; block = c .block; offset = c .offset; len = length (c .bytes); befores = befores (t .slots) c }
 
+-- a slot when the new patch p is accepted: p where it is `here`, and otherwise as the creation turns it
+abbrev pub acceptedSlot : Slot → Hold → Bool → Slot → Slot
+acceptedSlot p h here s = cond here p (turned h (p .block) s)
+
 -- the next slots: the new patch p in slot j
 unfoldable pub acceptedSlots : List Slot → Slot → ℕ → Hold → List Slot
-acceptedSlots ss p j h = slotsBy (λ i. cond (eqb i j) p (turned h (p .block) (slotAt ss i)))
+acceptedSlots ss p j h = slotsBy (λ i. acceptedSlot p h (eqb i j) (slotAt ss i))
 
 -- the next table; next grows by one
 unfoldable pub accepted : Table → Change → ℕ → Hold → Table

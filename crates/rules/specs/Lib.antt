@@ -5,6 +5,7 @@ pub mod Table
 pub mod Open
 pub mod Create
 pub mod Write
+pub mod Rounds
 pub mod Complete
 pub mod Ask
 pub mod Count

@@ -1,6 +1,7 @@
 -- Document 01, "The table": what one slot holds.
 use Prim.Native.Nat.{ℕ}
 use mathlib.Core.Bool.{Bool, true, false}
+use lib.Dec.{eqb}
 use Rattle.rules.specs.declared.Hold.{Hold}
 use Rattle.rules.specs.declared.Hold.the-variants as hold
 use Rattle.rules.specs.declared.Kind.{Kind}
@@ -33,7 +34,14 @@ isHard (state.Waiting hold.Hard) = true
 isHard (state.Waiting (hold.Soft r)) = false
 isHard (state.InFlight k) = false
 
--- the undo room of a soft waiting patch; no other patch has one, and for those this says nothing
+-- a patch in the state has the undo room r: a soft waiting one has it, no other patch has a room
+abbrev pub hasRoom : State → ℕ → Bool
+hasRoom state.Free r = false
+hasRoom (state.Waiting hold.Hard) r = false
+hasRoom (state.Waiting (hold.Soft q)) r = eqb r q
+hasRoom (state.InFlight k) r = false
+
+-- the room of a patch that has one; for any other this says nothing
 abbrev pub roomOf : State → ℕ
 roomOf state.Free = 0
 roomOf (state.Waiting hold.Hard) = 0

@@ -6,11 +6,9 @@ use mathlib.Core.List.{List, [], _∷_}
 use lib.Dec.{eqb}
 use lib.ListN.{getD}
 use Rattle.masks.specs.Sets.{has}
-use Rattle.rules.specs.declared.Hold.the-variants as hold
-use Rattle.rules.specs.declared.State.the-variants as state
 use Rattle.rules.specs.declared.Slot.{Slot}
 use Rattle.rules.specs.Sizes.{blocks, blockBytes, rooms, slots, mostBytes, lastNumber}
-use Rattle.rules.specs.Slots.{isUsed, isWaiting, isInFlight, isHard, freeSlot}
+use Rattle.rules.specs.Slots.{isUsed, isWaiting, isInFlight, isHard, hasRoom, freeSlot}
 
 -- a table holds its first number, its next number and 64 slots
 pub record Table : Type 0 where
@@ -55,9 +53,9 @@ fliesOn ss b i = isInFlight (slotAt ss i .state) && eqb (slotAt ss i .block) b
 abbrev pub hardOn : List Slot → ℕ → ℕ → Bool
 hardOn ss b i = isHard (slotAt ss i .state) && eqb (slotAt ss i .block) b
 
--- slot i holds a soft waiting patch with undo room r; no other patch has a room
+-- slot i holds a patch that has the undo room r
 abbrev pub HasRoom : List Slot → ℕ → ℕ → Type 0
-HasRoom ss i r = slotAt ss i .state ≡ state.Waiting (hold.Soft r)
+HasRoom ss i r = hasRoom (slotAt ss i .state) r ≡ true
 
 -- the table is sound; nothing more is tested, and of a free slot nothing at all
 pub record Sound (t : Table) : Type 0 where

@@ -19,7 +19,7 @@ pub record MayGo (ss : List Slot) (b s : ℕ) : Type 0 where
   pub set : s < 2 ^ slots
   pub within : (i : ℕ) → has s i ≡ true → waitsOn ss b i ≡ true
   -- each before of each member is in it
-  pub closed : (i : ℕ) → has s i ≡ true → Sub (slotAt ss i .befores) s
+  pub closed : (i k : ℕ) → has s i ≡ true → k < slots → has (slotAt ss i .befores) k ≡ true → has s k ≡ true
   -- if it is not empty, all hard patches of the block are in it
   pub hards : (i : ℕ) → has s i ≡ true → (h : ℕ) → h < slots → hardOn ss b h ≡ true → has s h ≡ true
 
@@ -58,9 +58,13 @@ sentState state.Free = state.Free
 sentState (state.Waiting h) = state.InFlight (kindOf h)
 sentState (state.InFlight k) = state.InFlight k
 
+-- a slot whose patch `goes`, or does not
+abbrev pub sentSlot : Bool → Slot → Slot
+sentSlot goes s = cond goes (withState (sentState (s .state)) s) s
+
 -- the next slots: the patches of s in flight
 unfoldable pub sentSlots : List Slot → ℕ → List Slot
-sentSlots ss s = slotsBy (λ i. cond (has s i) (withState (sentState (slotAt ss i .state)) (slotAt ss i)) (slotAt ss i))
+sentSlots ss s = slotsBy (λ i. sentSlot (has s i) (slotAt ss i))
 
 -- the next table
 unfoldable pub sent : Table → ℕ → Table

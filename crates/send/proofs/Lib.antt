@@ -1,4 +1,4 @@
--- The laws that the proofs here lean on: the search by rounds, and taking back highest number first.
+-- The laws that the proofs here lean on: the walk of one round, and taking back highest number first.
+pub mod Striking
 pub mod Back
-pub mod Rounds
-pub mod Words
+pub mod Handed

@@ -1,16 +1,18 @@
--- Handing a block out, in the words of `rules`. Where the table is not sound or a buffer has not its size nothing is said: the write is refused before.
-use Prim.Native.Nat.{ℕ, _<_}
-use mathlib.Core.Path.{_≡_}
+-- What `hand_out` gives, for any slots, any patches to be taken back and buffers of any size. Inner crates promise by it: for a block's patches left
+-- behind, in a sound table and with buffers of their sizes, it is handedOut of `rules` (proofs/Handed.antt).
+use Prim.Native.Nat.{ℕ}
+use mathlib.Core.Bool.{Bool, _&&_, not}
 use mathlib.Core.List.{List}
-use lib.ListN.{length}
-use Rattle.rules.specs.Sizes.{blocks, blockBytes, imageBytes}
-use Rattle.rules.specs.Table.{Table, Sound}
-use Rattle.rules.specs.Write.{handedOut}
+use Rattle.masks.specs.Sets.{has}
+use Rattle.spans.specs.Spans.{splice, part}
+use Rattle.rules.specs.declared.Slot.{Slot}
+use Rattle.rules.specs.Sizes.{blockBytes, blockStart}
+use Rattle.rules.specs.Write.{backDown}
 
-pub record Sized (image block : List ℕ) (b : ℕ) : Type 0 where
-  pub image-whole : length image ≡ imageBytes
-  pub block-whole : length block ≡ blockBytes
-  pub is-block : b < blocks
+-- slot i waits and does not go
+abbrev pub staying : ℕ → ℕ → ℕ → Bool
+staying waiting set i = has waiting i && not (has set i)
 
-abbrev pub Handed : Table → ℕ → ℕ → List ℕ → List ℕ → List ℕ → List ℕ → Type 0
-Handed t b s image undo block block′ = Sound t → Sized image block b → block′ ≡ handedOut t b s image undo
+-- the working block b laid over the bytes `out`, and the patches of `left` with a number below `top` taken back, highest number first
+unfoldable pub handed : List Slot → (ℕ → Bool) → ℕ → ℕ → List ℕ → List ℕ → List ℕ → List ℕ
+handed ss left b top image undo out = backDown ss left undo 0 top (splice out 0 (part image (blockStart b) blockBytes))

@@ -1,3 +1,3 @@
--- What the block handed out is, where the table is sound and the buffers have their sizes; and what the steps under it give.
+-- What the block handed out is, whatever is handed in, and what the search under it gives.
 pub mod Back
 pub mod Handed

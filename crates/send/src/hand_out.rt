@@ -5,24 +5,25 @@ ghost use mathlib.Core.Path.{_≡_};
 ghost use Rattle.spans.specs.Spans.{splice, part};
 ghost use Rattle.rules.specs.Sizes.{roomStart};
 ghost use Rattle.rules.specs.Slots.{roomOf};
-ghost use Rattle.masks.specs.Sets.{setOf};
-ghost use Rattle.rules.specs.Table.{tableOf, waitsOn};
-ghost use Rattle.send.specs.Back.{Best, AllBack};
-ghost use Rattle.send.specs.Handed.{Handed};
+ghost use Rattle.rules.specs.Write.{backDown};
+ghost use Rattle.masks.specs.Sets.{has};
+ghost use Rattle.send.specs.Back.{Best};
+ghost use Rattle.send.specs.Handed.{handed, staying};
 use rules::Slot;
 use slots::walks::numbers_of;
 use slots::words::room_of;
 
-// Slot i against the best so far (64: none yet): the higher number, if it is below `below`.
-fn better(numbers: &[u32; 64], left: u64, below: u32, best: usize, i: usize) -> usize
-    requires { ⌜ i < 64 ⌝ }
-    ensures { λ r. ⌜ (Best (now (numbers .entry)) left below i best → Best (now (numbers .entry)) left below (i + 1) r) ⌝ }
+// Slot i against the best so far (64: none yet): the higher number, if it is below `top`, and of
+// two with the same number the lower slot.
+fn better(numbers: &[u32; 64], left: u64, top: u32, best: usize, i: usize) -> usize
+    requires { ⌜ (i < 64) × Best (now numbers) left top i best ⌝ }
+    ensures { λ r. ⌜ Best (now (numbers .entry)) left top (i + 1) r ⌝ }
 {
     if !masks::has(left, i) {
         return best;
     }
     let n = numbers[i];
-    if below <= n {
+    if top <= n {
         return best;
     }
     if 63 < best {
@@ -31,13 +32,13 @@ fn better(numbers: &[u32; 64], left: u64, below: u32, best: usize, i: usize) -> 
     if numbers[best] < n { i } else { best }
 }
 
-// Of the slots of `left`, that with the highest number below `below`; 64 where there is none.
-fn highest(numbers: &[u32; 64], left: u64, below: u32) -> usize
-    ensures { λ r. ⌜ Best (now (numbers .entry)) left below 64 r ⌝ }
+// Of the slots of `left`, the lowest with the highest number below `top`; 64 where there is none.
+fn highest(numbers: &[u32; 64], left: u64, top: u32) -> usize
+    ensures { λ r. ⌜ Best (now (numbers .entry)) left top 64 r ⌝ }
 {
     let mut best = 64;
     for i in 0..64 {
-        best = better(numbers, left, below, best, i);
+        best = better(numbers, left, top, best, i);
     }
     best
 }
@@ -54,33 +55,32 @@ fn take_back(out: &mut [u8], undo: &[u8], s: Slot)
 // All patches of `left` with a number below `top` taken back. The numbers are gathered once and
 // lent to each search.
 fn take_all_back(out: &mut [u8], undo: &[u8], slots: [Slot; 64], left: u64, top: u32)
-    ensures { λ _. ⌜ AllBack slots left (now (undo .entry)) top (now (out .entry)) (now (out .exit)) ⌝ }
+    ensures { λ _. ⌜ now (out .exit) ≡ backDown slots (has left) (now (undo .entry)) 0 top (now (out .entry)) ⌝ }
 {
     let numbers = numbers_of(slots);
-    let mut below = top;
-    let mut i = highest(&numbers, left, below);
+    let mut rest = left;
+    let mut i = highest(&numbers, rest, top);
     while i < 64 {
         let s = slots[i];
         take_back(out, undo, s);
-        below = s.number;
-        i = highest(&numbers, left, below);
+        rest = masks::without(rest, masks::with(0, i));
+        i = highest(&numbers, rest, top);
     }
 }
 
 // The block as it goes out when the patches of `set` go; `waiting` is the set of the block's waiting
-// patches.
+// patches. The promise holds for any sets, slots and sizes.
 pub fn hand_out(
     out: &mut [u8],
     image: &[u8],
     undo: &[u8],
     block: u32,
-    first: u32,
     next: u32,
     slots: [Slot; 64],
     waiting: u64,
     set: u64,
 )
-    ensures { λ _. ⌜ (waiting ≡ setOf (waitsOn slots block) → Handed (tableOf first next slots) block set (now (image .entry)) (now (undo .entry)) (now (out .entry)) (now (out .exit))) ⌝ }
+    ensures { λ _. ⌜ now (out .exit) ≡ handed slots (staying waiting set) block next (now (image .entry)) (now (undo .entry)) (now (out .entry)) ⌝ }
 {
     spans::copy(out, 0, image, (block as usize) * 256, 256);
     let left = masks::without(waiting, set);

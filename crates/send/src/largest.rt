@@ -1,14 +1,13 @@
 // The search for the largest set that may go: it starts from all waiting patches of a block and
 // strikes, round by round, each patch with a before outside the set the round began with. A struck
 // hard patch strikes all, since what it wrote cannot be taken back.
-ghost use Prim.Native.Nat.{ℕ};
-ghost use Rattle.rules.specs.Write.{Largest};
-ghost use Rattle.slots.specs.Words.{PatchesOn};
+ghost use mathlib.Core.Path.{_≡_};
+ghost use Rattle.rules.specs.Rounds.{searched};
 use rules::Slot;
 use slots::patches::Patches;
 
 pub fn largest(slots: [Slot; 64], on: Patches) -> u64
-    ensures { λ r. ⌜ ((b : ℕ) → PatchesOn slots b on → Largest slots b r) ⌝ }
+    ensures { λ r. ⌜ r ≡ searched slots (on .hard) (on .waiting) ⌝ }
 {
     let hard = on.hard;
     let mut began = on.waiting;

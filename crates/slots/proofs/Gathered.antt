@@ -1,40 +1,36 @@
--- Laws of a set that a walk gathers, one slot more at a time. Assumes nothing.
+-- The set of what the slots below n give, and laws of a walk that gathers it, one slot more at a time. Assumes nothing.
 use Prim.Native.Nat.{ℕ, _+_, _<_}
-use mathlib.Core.Path.{_≡_, sym, _∙_, subst}
-use mathlib.Core.Bool.{true, _||_}
-use mathlib.Core.Logic.{⊎-elim}
-use native.Mathlib.Decide.{ℕ-discrete}
+use mathlib.Core.Path.{_≡_, sym, ap₂, _∙_}
+use mathlib.Core.Bool.{Bool, true, false, _||_, or-false}
 use native.Mathlib.Omega.{arith}
-use Rattle.masks.specs.Sets.{has, setOf}
-use Rattle.masks.proofs.Decided.{clash, or-true, true-or-l, true-or-r}
-use Rattle.masks.proofs.Laws.{has-none, has-set}
-use Rattle.slots.specs.Words.{Gathered}
+use Rattle.masks.specs.Sets.{has, setOf, someBelow}
+use Rattle.masks.proofs.Laws.{has-of, set-lt, set-ext, no-member, has-set, some-at, at-some, some-more, at-none}
 
-module _ {Gives : ℕ → ℕ → Type 0} where
-  pub gathered-none : Gathered Gives 0 0
-  gathered-none = record { all = λ i r l. absurd (omega arith); only = λ r l h. absurd (clash h (has-none r)) }
+-- the set of the r that a slot below n gives
+abbrev pub gathered : (ℕ → ℕ → Bool) → ℕ → ℕ
+gathered gives n = setOf (λ r. someBelow (λ i. gives i r) n)
 
-  module _ {n m : ℕ} (below : Gathered Gives n m) where
-    -- what holds of slots below n + 1 by what slot n gives, and of those below n
-    at-most : {Q : Type 0} (i r : ℕ) → i < n + 1 → Gives i r → (Gives n r → Q) → (i < n → Q) → Q
-    at-most {Q} i r l g last before = by (ℕ-discrete i n)
-      where
-        by : Dec (i ≡ n) → Q
-        by (yes e) = last (subst (λ (x : ℕ). Gives x r) e g)
-        by (no d) = before (omega arith)
+module _ (gives : ℕ → ℕ → Bool) where
+  pub gathered-none : 0 ≡ gathered gives 0
+  gathered-none =
+      sym (no-member (gathered gives 0) (set-lt (λ r. someBelow (λ i. gives i r) 0))
+      (λ r l. has-set (λ r. someBelow (λ i. gives i r) 0) r l ∙ at-none (λ i. gives i r) 0 (λ i k. absurd (omega arith))))
 
-    -- a slot that gives nothing
-    pub gathered-pass : ((r : ℕ) → Gives n r → ⊥) → Gathered Gives (n + 1) m
-    gathered-pass f = record {
-      all = λ i r l k g. at-most i r l g (λ h. absurd (f r h)) (λ b. below .all i r b k g);
-      only = λ r l h. let z = below .only r l h in (z .0, omega arith, z .2);
-    }
+  -- a slot that gives nothing
+  pub gathered-pass : (n : ℕ) → ((r : ℕ) → gives n r ≡ false) → gathered gives n ≡ gathered gives (n + 1)
+  gathered-pass n f =
+      set-ext (λ r. someBelow (λ i. gives i r) n) (λ r. someBelow (λ i. gives i r) (n + 1))
+      (λ r l. sym (some-more (λ i. gives i r) n ∙ rw (f r) (or-false (someBelow (λ i. gives i r) n))))
 
-    -- a slot that gives just what the set q has
-    pub gathered-more : (q : ℕ) → ((r : ℕ) → r < 64 → Gives n r → has q r ≡ true) → ((r : ℕ) → r < 64 → has q r ≡ true → Gives n r)
-        → Gathered Gives (n + 1) (setOf (λ k. has m k || has q k))
-    gathered-more q into out = record {
-      all = λ i r l k g. has-set (λ k. has m k || has q k) r k ∙ at-most i r l g (λ h. true-or-r (has m r) (into r k h)) (λ b. true-or-l (has q r) (below .all i r b k g));
-      only = λ r l h. ⊎-elim (λ p. let z = below .only r l p in (z .0, omega arith, z .2)) (λ p. (n, omega arith, out r l p))
-          (or-true (has m r) (has q r) (sym (has-set (λ k. has m k || has q k) r l) ∙ h));
-    }
+  module _ {n m : ℕ} (below : m ≡ gathered gives n) where
+    -- a slot that gives what is in the set q
+    pub gathered-more : (q : ℕ) → ((r : ℕ) → r < 64 → has q r ≡ gives n r) → setOf (λ r. has m r || has q r) ≡ gathered gives (n + 1)
+    gathered-more q f =
+        set-ext (λ r. has m r || has q r) (λ r. someBelow (λ i. gives i r) (n + 1))
+        (λ r l. ap₂ _||_ (has-of (λ r. someBelow (λ i. gives i r) n) m r below l) (f r l) ∙ sym (some-more (λ i. gives i r) n))
+
+    pub gathered-all : (i r : ℕ) → i < n → r < 64 → gives i r ≡ true → has m r ≡ true
+    gathered-all i r l k e = has-of (λ r. someBelow (λ i. gives i r) n) m r below k ∙ some-at (λ i. gives i r) n i l e
+
+    pub gathered-only : (r : ℕ) → r < 64 → has m r ≡ true → (i : ℕ) × (i < n) × (gives i r ≡ true)
+    gathered-only r k h = at-some (λ i. gives i r) n (sym (has-of (λ r. someBelow (λ i. gives i r) n) m r below k) ∙ h)

@@ -1,6 +1,7 @@
 -- What the proofs of the functions share.
 pub mod Gathered
 pub mod OnBlock
+pub mod One
 pub mod Rooms
 pub mod SetSize
 pub mod Tested

@@ -1,24 +1,22 @@
 -- A table is sound just where its header is within its bounds, each slot passes the tests of `judge` and all befores are slots in
 -- use: the two directions from what the loop shows of each slot to Sound, which speaks of all. Assumes nothing.
-use Prim.Native.Nat.{ℕ, _^_, _<_}
-use mathlib.Core.Path.{_≡_, sym, ap, _∙_, subst}
-use mathlib.Core.Bool.{true, false}
+use Prim.Native.Nat.{ℕ, _<_}
+use mathlib.Core.Path.{_≡_, refl, sym, _∙_, subst}
+use mathlib.Core.Bool.{Bool, true, _&&_}
 use mathlib.Core.List.{List}
 use native.Mathlib.Decide.{decLt}
 use native.Mathlib.Omega.{arith}
-use Rattle.masks.specs.Decides.{Decides}
-use Rattle.masks.specs.Sets.{has, setOf, Sub}
-use Rattle.masks.proofs.Decided.{clash}
-use Rattle.masks.proofs.Laws.{has-of, has-slot}
-use Rattle.rules.specs.declared.State.{State}
+use Rattle.masks.specs.Sets.{has, setOf, within}
+use Rattle.masks.proofs.Decided.{and-true, true-and}
+use Rattle.masks.proofs.Laws.{has-of, within-at, at-within}
 use Rattle.rules.specs.declared.Slot.{Slot}
 use Rattle.rules.specs.Sizes.{slots, rooms}
-use Rattle.rules.specs.Slots.{isUsed, roomOf}
 use Rattle.rules.specs.Table.{Sound, tableOf, used, slotAt, HasRoom}
-use Rattle.slots.specs.Tests.{HeaderInRange, Alone}
+use Rattle.slots.specs.Tests.{HeaderInRange, Alone, unsound}
 use Rattle.slots.specs.declared.sound.Verdict.{Verdict}
-use Rattle.slots.specs.Words.{Carries, Gathered, IsVerdict}
-use Rattle.slots.proofs.Rooms.{room-below}
+use Rattle.slots.specs.Words.{Carries, IsVerdict}
+use Rattle.rules.proofs.Words.{room-is, room-below, has-room-used}
+use Rattle.slots.proofs.Gathered.{gathered, gathered-all, gathered-only}
 
 -- slot i has not the room of a slot below it
 abbrev pub RoomApart : List Slot → ℕ → Type 0
@@ -35,8 +33,8 @@ pub record Tested (first next : ℕ) (ss : List Slot) (i : ℕ) : Type 0 where
   pub room : RoomApart ss i
 
 -- slot r is among the befores of slot i, which is in use
-abbrev pub Follows : List Slot → ℕ → ℕ → Type 0
-Follows ss i r = (used ss i ≡ true) × (has (slotAt ss i .befores) r ≡ true)
+abbrev pub follows : List Slot → ℕ → ℕ → Bool
+follows ss i r = used ss i && has (slotAt ss i .befores) r
 
 -- two slots of which each is apart from those below it and that have something in common are one
 below-same : {P : ℕ → ℕ → Type 0} → ((i j : ℕ) → i < slots → j < i → P i j → ⊥) → ((i j : ℕ) → P i j → P j i)
@@ -68,15 +66,15 @@ module _ {first next : ℕ} {ss : List Slot} where
   }
 
   -- all befores m of a sound table are slots in use
-  module _ {m n : ℕ} (befores : Gathered (Follows ss) slots m) (is-used : n ≡ setOf (used ss)) where
-    pub sound-sub : Sound (tableOf first next ss) → m < 2 ^ 64 → Sub m n
-    sound-sub s fits k h =
-        let l = has-slot m k fits h in
-        let z = befores .only k l h in
-        has-of (used ss) n k is-used l ∙ s .befores-used (z .0) k (z .1) l (z .2 .0) (z .2 .1)
+  module _ {m n : ℕ} (befores : m ≡ gathered (follows ss) slots) (is-used : n ≡ setOf (used ss)) where
+    pub sound-within : Sound (tableOf first next ss) → within m n ≡ true
+    sound-within s = at-within m n (λ k l h.
+        let z = gathered-only (follows ss) befores k l h in
+        let w = and-true (used ss (z .0)) _ (z .2) in
+        has-of (used ss) n k is-used l ∙ s .befores-used (z .0) k (z .1) l (w .0) (w .1))
 
-    pub tested-sound : HeaderInRange first next → ((i : ℕ) → i < slots → Tested first next ss i) → Sub m n → Sound (tableOf first next ss)
-    tested-sound h t sub = record {
+    pub tested-sound : HeaderInRange first next → ((i : ℕ) → i < slots → Tested first next ss i) → within m n ≡ true → Sound (tableOf first next ss)
+    tested-sound h t inside = record {
       first-least = h .first-least;
       first-most = h .first-most;
       next-least = h .next-least;
@@ -91,17 +89,14 @@ module _ {first next : ℕ} {ss : List Slot} where
       len-least = λ i l u. t i l .alone u .range .len-least;
       len-most = λ i l u. t i l .alone u .range .len-most;
       ends = λ i l u. t i l .alone u .range .ends;
-      befores-used = λ i j l k u h. sym (has-of (used ss) n j is-used k) ∙ sub j (befores .all i j l k (u, h));
+      befores-used = λ i j l k u h.
+          sym (has-of (used ss) n j is-used k) ∙ within-at m n j inside k (gathered-all (follows ss) befores i j l k (true-and u h));
       befores-other = λ i l u. t i l .alone u .befores-other;
-      room-most = λ i r l e. subst (λ (u : State). roomOf u < rooms) e (t i l .alone (ap isUsed e) .room-most);
+      room-most = λ i r l e. subst (λ (q : ℕ). q < rooms) (room-is (slotAt ss i .state) r e) (t i l .alone (has-room-used ss i r e) .room-most);
       rooms-differ = λ i j r l k e f.
           below-same {P = λ i j. HasRoom ss i r × HasRoom ss j r} (λ i j l b h. t i l .room j r b (h .0) (h .1)) (λ i j h. (h .1, h .0)) i j l k (e, f);
     }
 
 -- the verdict on a table that is not sound
-pub not-sound : {first next : ℕ} {ss : List Slot} (v : Verdict) → v .sound ≡ false → (Sound (tableOf first next ss) → ⊥) → IsVerdict first next ss v
-not-sound {first} {next} {ss} v e n = record {
-  decides = subst (Decides (Sound (tableOf first next ss))) (sym e) n;
-  used-slots = λ t. absurd (clash t e);
-  taken-rooms = λ t. absurd (clash t e);
-}
+pub not-sound : {first next : ℕ} {ss : List Slot} {v : Verdict} → v ≡ unsound → (Sound (tableOf first next ss) → ⊥) → IsVerdict first next ss v
+not-sound {first} {next} {ss} e n = subst (IsVerdict first next ss) (sym e) (record { decides = n; used-slots = refl; taken-rooms = refl })

@@ -1,12 +1,13 @@
 -- What the private tests of `judge` decide, of one slot and of its number among others. No public promise cites this file: those cite Sound of `rules`.
 use Prim.Native.Nat.{ℕ, _+_, _/_, _%_, _≤_, _<_}
 use mathlib.Core.Path.{_≡_}
-use mathlib.Core.Bool.{Bool, true}
+use mathlib.Core.Bool.{Bool, true, false}
 use mathlib.Core.List.{List}
 use lib.ListN.{length, getD}
 use Rattle.masks.specs.Sets.{has}
 use Rattle.rules.specs.declared.Slot.{Slot}
 use Rattle.rules.specs.Slots.{roomOf}
+use Rattle.slots.specs.declared.sound.Verdict.{Verdict}
 use Rattle.rules.specs.Sizes.{blocks, blockBytes, rooms, mostBytes, lastNumber}
 
 -- first is 1 to 1,000,000,000; next is from first to 1,000,000,001
@@ -41,3 +42,7 @@ pub record Marking (ms : List ℕ) (n : ℕ) (r : Bool) (ms′ : List ℕ) : Typ
   pub size : length ms′ ≡ length ms
   pub is : marked ms′ n ≡ true
   pub kept : (k : ℕ) → marked ms k ≡ true → marked ms′ k ≡ true
+
+-- the verdict on a table that is not sound
+abbrev pub unsound : Verdict
+unsound = record { sound = false; used = 0; rooms = 0 }

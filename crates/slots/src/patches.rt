@@ -1,16 +1,50 @@
 // The patches of one block, as sets of slots. Every call that names a block asks for some of these
 // sets, so one walk gathers them all, and what a call does not use the compiler leaves out.
+ghost use mathlib.Core.Path.{_≡_};
+ghost use Rattle.rules.specs.Slots.{isWaiting, isInFlight, isHard};
 ghost use Rattle.slots.specs.Words.{PatchesOn};
-use crate::words::is_hard;
-use crate::words::is_in_flight;
-use crate::words::is_waiting;
+use rules::Hold;
 use rules::Slot;
+use rules::State;
 
 // Those that wait, those of them that are hard, and those in flight.
 pub struct Patches {
     pub waiting: u64,
     pub hard: u64,
     pub in_flight: u64,
+}
+
+fn is_waiting(u: State) -> bool
+    ensures { λ r. ⌜ r ≡ isWaiting u ⌝ }
+{
+    match u {
+        State::Free => false,
+        State::Waiting(_) => true,
+        State::InFlight(_) => false,
+    }
+}
+
+fn is_in_flight(u: State) -> bool
+    ensures { λ r. ⌜ r ≡ isInFlight u ⌝ }
+{
+    match u {
+        State::Free => false,
+        State::Waiting(_) => false,
+        State::InFlight(_) => true,
+    }
+}
+
+fn is_hard(u: State) -> bool
+    ensures { λ r. ⌜ r ≡ isHard u ⌝ }
+{
+    match u {
+        State::Free => false,
+        State::Waiting(h) => match h {
+            Hold::Hard => true,
+            Hold::Soft(_) => false,
+        },
+        State::InFlight(_) => false,
+    }
 }
 
 pub fn patches_on(slots: [Slot; 64], block: u32) -> Patches

@@ -1,16 +1,18 @@
 // Whether a table is sound: each patch by itself, then beside those of the slots below it.
 ghost use mathlib.Core.Path.{_≡_};
-ghost use mathlib.Core.Bool.{false};
 ghost use lib.ListN.{length};
 ghost use Rattle.masks.specs.Decides.{Decides};
+ghost use Rattle.masks.specs.Sets.{setOf};
+ghost use Rattle.rules.specs.Slots.{hasRoom};
 ghost use Rattle.rules.specs.Table.{Sound, tableOf};
-ghost use Rattle.slots.specs.Tests.{HeaderInRange, InRange, Alone, Marking};
+ghost use Rattle.slots.specs.Tests.{HeaderInRange, InRange, Alone, Marking, unsound};
 ghost use Rattle.slots.specs.Words.{IsVerdict};
 use crate::walks::find;
 use crate::words::is_used;
 use crate::words::room_of;
-use crate::words::room_set;
+use rules::Hold;
 use rules::Slot;
+use rules::State;
 
 // Whether the first and the next number are within their bounds.
 fn header_in_range(first: u32, next: u32) -> bool
@@ -73,6 +75,21 @@ fn sound_alone(s: Slot, i: usize, first: u32, next: u32) -> bool
     true
 }
 
+// The undo room of a patch as a set: rooms gathered in a set are looked up without a walk. No set
+// has a room above 63, and a sound table has none above 15.
+fn room_set(u: State) -> u64
+    ensures { λ r. ⌜ r ≡ setOf (hasRoom u) ⌝ }
+{
+    match u {
+        State::Free => 0,
+        State::Waiting(h) => match h {
+            Hold::Hard => 0,
+            Hold::Soft(r) => masks::with(0, r as usize),
+        },
+        State::InFlight(_) => 0,
+    }
+}
+
 // Marks a number by its ten lowest binary digits, and says whether that mark was there: a number
 // that comes again finds its mark, and so does one that only ends in the same digits.
 fn mark(marks: &mut [u64; 16], n: u32) -> bool
@@ -86,7 +103,8 @@ fn mark(marks: &mut [u64; 16], n: u32) -> bool
     masks::has(marked, digits)
 }
 
-// Whether the table is sound and, where it is, the slots in use and the rooms that are taken.
+// Whether the table is sound, the slots in use and the rooms that are taken; no slot and no room where
+// it is not.
 pub struct Verdict {
     pub sound: bool,
     pub used: u64,
@@ -94,7 +112,7 @@ pub struct Verdict {
 }
 
 fn unsound() -> Verdict
-    ensures { λ r. ⌜ r .sound ≡ false ⌝ }
+    ensures { λ r. ⌜ r ≡ unsound ⌝ }
 {
     Verdict {
         sound: false,
@@ -138,8 +156,11 @@ pub fn judge(first: u32, next: u32, slots: [Slot; 64]) -> Verdict
         used = masks::with(used, i);
         befores = masks::joined(befores, s.befores);
     }
+    if !masks::within(befores, used) {
+        return unsound();
+    }
     Verdict {
-        sound: masks::within(befores, used),
+        sound: true,
         used,
         rooms,
     }

@@ -18,7 +18,7 @@ pub fn text(words: &[u8]) {
     io::write_all(STDOUT_FILENO, words);
 }
 
-pub fn number(n: u32) {
+fn number(n: u32) {
     io::print_decimal(STDOUT_FILENO, n as u64);
 }
 

@@ -5,9 +5,9 @@ use mathlib.Core.Logic.{⊎-elim}
 use native.Mathlib.Omega.{arith}
 use borrow.Author.Tests.{not-false}
 use lib.Bits.{bitAnd, and-le-l}
-use Rattle.masks.specs.Sets.{has, Sub}
+use Rattle.masks.specs.Sets.{has, Sub, within}
 use Rattle.masks.proofs.Decided.{true-or-false}
-use Rattle.masks.proofs.Laws.{has-none, has-slot, no-member, has-without}
+use Rattle.masks.proofs.Laws.{has-none, has-slot, no-member, has-without, within-sub, sub-within}
 use Rattle.masks.proofs.within.Statement.{statement}
 use Rattle.masks.proofs.within.Tie as tie
 
@@ -23,10 +23,19 @@ module _ (a b : ℕ) (la : a < 2 ^ 64) (lb : b < 2 ^ 64) where
       (λ i l. has-without a b i lb l ∙ ⊎-elim (λ h. rw (f i h, h)) (λ h. rw h) (true-or-false (has a i)))
 
 returns : tie.Need-returns
-returns c = none-sub (c .before .args .a) (c .before .args .b) (c .before .fits .a .fits) (c .before .fits .b .fits) (c .if1 .taken)
+returns c =
+    let start = c .before in
+    let a = start .args .a in
+    let b = start .args .b in
+    sym (sub-within a b (none-sub a b (start .fits .a .fits) (start .fits .b .fits) (c .if1 .taken)))
 
 returns-2 : tie.Need-returns-2
-returns-2 c f = c .if1 .left (sub-none (c .before .args .a) (c .before .args .b) (c .before .fits .a .fits) (c .before .fits .b .fits) f)
+returns-2 c =
+    let start = c .before in
+    let a = start .args .a in
+    let b = start .args .b in
+    let la = start .fits .a .fits in
+    ⊎-elim (λ e. absurd (c .if1 .left (sub-none a b la (start .fits .b .fits) (within-sub a b la e)))) sym (true-or-false (within a b))
 
 pub within-spec : {M : Type 1} → statement M
 within-spec = tie.close (tie.spec returns returns-2)

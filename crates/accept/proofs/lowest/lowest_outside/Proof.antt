@@ -1,19 +1,18 @@
 -- `accept::lowest::lowest_outside` meets its contract. The loop's invariant: each of the numbers passed is in the set. Assumes nothing.
 use Prim.Native.Nat.{ℕ, _≤_, _<_, _-_}
-use mathlib.Core.Path.{_≡_, sym, _∙_}
-use mathlib.Core.Bool.{false}
+use mathlib.Core.Path.{sym, _∙_}
 use native.Mathlib.Omega.{arith}
 use borrow.Author.Count.{below-none, below-more}
 use borrow.Author.Needs.{needs}
 use borrow.Author.Tests.{not-true, not-false}
-use Rattle.masks.specs.Sets as Sets
 use Rattle.masks.proofs.Decided.{clash}
+use Rattle.accept.specs.Asked.{Outside}
 use Rattle.accept.proofs.LowestFound.{found-lowest, nowhere-lowest}
 use Rattle.accept.proofs.lowest.lowest_outside.Statement.{statement}
 use Rattle.accept.proofs.lowest.lowest_outside.Tie as tie
 
 abbrev Inv-loop : tie.InvT-loop
-Inv-loop set n i₀ i = (i ≤ n) × ((k : ℕ) → k < i → Sets.has set k ≡ false → ⊥)
+Inv-loop set n i₀ i = (i ≤ n) × ((k : ℕ) → k < i → Outside set k → ⊥)
 
 abbrev μ-loop : tie.MeasureT-loop
 μ-loop set n i₀ i = n - i

@@ -1,9 +1,10 @@
 -- `calls::board_complete` meets its contract. Assumes nothing.
-use mathlib.Core.Path.{_≡_}
+use mathlib.Core.Path.{_≡_, _∙_}
 use denote.Ref.{now}
 use Rattle.masks.proofs.Decided.{yes-not, no-not}
 use Rattle.cache.specs.Seen.{seen, completion}
 use Rattle.board.specs.Layout.{IsTable, tableIn}
+use Rattle.board.proofs.Length.{read-whole, stored-whole}
 use Rattle.board.proofs.Answers.{complete-none, complete-granted-here, complete-refused-here}
 use borrow.Author.Needs.{needs}
 use Rattle.board.proofs.calls.board_complete.Statement.{statement}
@@ -20,7 +21,7 @@ table-here : (c : tie.Else1) → IsTable (now (c .before .before .before .before
 table-here c = yes-not (c .before .is-table .result) (c .before .is-table .ensures) (c .if1 .left)
 
 seen-here : (c : tie.After-table-in) → seen (c .table-in .result) ≡ tableIn (now (c .before .before .before .before .before .before .args .table))
-seen-here c = c .table-in .ensures (table-here (c .before .before) .size)
+seen-here c = c .table-in .ensures ∙ read-whole _ (table-here (c .before .before) .size)
 
 returns : tie.Need-returns
 returns c = complete-none _ _ (no-not (c .before .is-table .result) (c .before .is-table .ensures) (c .if1 .taken))
@@ -47,7 +48,8 @@ returns-2 : tie.Need-returns-2
 returns-2 c =
     let r = c .before .before .before .before .before .before .before in
     let i = table-here (r .before .before .before) in
-    complete-granted-here (completion (r .complete .result)) i (seen-here (r .before)) (r .complete .ensures) (c .before .before .before .before .before .enum-told .given .1) (c .before .before .store .ensures (i .size))
+    complete-granted-here (completion (r .complete .result)) i (seen-here (r .before)) (r .complete .ensures)
+    (c .before .before .before .before .before .enum-told .given .1) (c .before .before .store .ensures ∙ stored-whole _ _ (i .size))
 
 same-length-3 : tie.Need-same-length-3
 same-length-3 c = search needs

@@ -1,10 +1,11 @@
 -- `calls::board_count` meets its contract. Assumes nothing.
-use mathlib.Core.Path.{_≡_}
+use mathlib.Core.Path.{_≡_, _∙_}
 use denote.Ref.{now}
 use Rattle.masks.proofs.Decided.{yes-not, no-not}
 use Rattle.rules.specs.declared.CountAnswer.the-variants as count
 use Rattle.cache.specs.Seen.{seen}
 use Rattle.board.specs.Layout.{IsTable, tableIn}
+use Rattle.board.proofs.Length.{read-whole}
 use Rattle.board.proofs.Answers.{count-none, count-here}
 use borrow.Author.Needs.{needs}
 use Rattle.board.proofs.calls.board_count.Statement.{statement}
@@ -18,7 +19,7 @@ table-here : (c : tie.Else1) → IsTable (now (c .before .before .before .args .
 table-here c = yes-not (c .before .is-table .result) (c .before .is-table .ensures) (c .if1 .left)
 
 seen-here : (c : tie.After-table-in) → seen (c .table-in .result) ≡ tableIn (now (c .before .before .before .before .args .table))
-seen-here c = c .table-in .ensures (table-here (c .before) .size)
+seen-here c = c .table-in .ensures ∙ read-whole _ (table-here (c .before) .size)
 
 returns : tie.Need-returns
 returns c = count-none _ _ (no-not (c .before .is-table .result) (c .before .is-table .ensures) (c .if1 .taken))

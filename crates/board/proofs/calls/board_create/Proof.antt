@@ -1,5 +1,5 @@
 -- `calls::board_create` meets its contract. Assumes nothing.
-use mathlib.Core.Path.{_≡_}
+use mathlib.Core.Path.{_≡_, _∙_}
 use mathlib.Core.Logic.{inl, inr, ⊎-elim}
 use denote.Ref.{now}
 use Rattle.masks.proofs.Decided.{yes-not, no-not}
@@ -7,6 +7,7 @@ use Rattle.rules.specs.Calls.{Creation}
 use Rattle.rules.proofs.Cases.{holds, passes}
 use Rattle.cache.specs.Seen.{seen, creation}
 use Rattle.board.specs.Layout.{IsTable, tableIn}
+use Rattle.board.proofs.Length.{read-whole, stored-whole}
 use Rattle.board.proofs.Answers.{create-none, hold-fits, create-granted-here, create-refused-here}
 use borrow.Author.Needs.{needs}
 use Rattle.board.proofs.calls.board_create.Statement.{statement}
@@ -23,7 +24,7 @@ table-here : (c : tie.Else1) → IsTable (now (c .before .before .before .before
 table-here c = yes-not (c .before .is-table .result) (c .before .is-table .ensures) (c .if1 .left)
 
 seen-here : (c : tie.After-table-in) → seen (c .table-in .result) ≡ tableIn (now (c .before .before .before .before .before .before .before .before .before .before .args .table))
-seen-here c = c .table-in .ensures (table-here (c .before .before) .size)
+seen-here c = c .table-in .ensures ∙ read-whole _ (table-here (c .before .before) .size)
 
 none-here : (c : tie.Then1) → IsTable (now (c .before .before .before .before .before .before .before .before .args .table)) → ⊥
 none-here c = no-not (c .before .is-table .result) (c .before .is-table .ensures) (c .if1 .taken)
@@ -80,7 +81,8 @@ returns-4 c =
     let r = c .before .before .before .before .before .before .before .before .before .before .before .before .before in
     let i = table-here (r .before .before .before .before .before) in
     let g = c .before .before .before .before .before .before .before .answer .given in
-    create-granted-here (made r) i (seen-here (r .before .before .before)) (r .create .ensures) (g .0 .0) (g .0 .1 .0) (g .1) (c .hold-number .ensures) (c .before .before .before .store .ensures (i .size))
+    create-granted-here (made r) i (seen-here (r .before .before .before)) (r .create .ensures) (g .0 .0) (g .0 .1 .0) (g .1) (c .hold-number .ensures)
+    (c .before .before .before .store .ensures ∙ stored-whole _ _ (i .size))
 
 same-length-7 : tie.Need-same-length-7
 same-length-7 c = search needs

@@ -1,6 +1,8 @@
 -- `calls::board_open` meets its contract. Assumes nothing.
+use mathlib.Core.Path.{_∙_}
 use Rattle.rules.specs.declared.Answer.the-variants as plain
 use Rattle.cache.specs.Seen.{opening}
+use Rattle.board.proofs.Length.{stored-whole}
 use Rattle.board.proofs.Answers.{open-other, open-here}
 use borrow.Author.Needs.{needs}
 use Rattle.board.proofs.calls.board_open.Statement.{statement}
@@ -27,7 +29,8 @@ same-length c = search needs
 returns-2 : tie.Need-returns-2
 returns-2 c =
     let o = c .before .before .before .before .before .before .before in
-    open-here (opening (o .«open» .result)) plain.Granted (o .before .if1 .left) (o .«open» .ensures) (c .enum-told .given .1) (c .before .before .before .before .store .ensures (o .before .if1 .left))
+    open-here (opening (o .«open» .result)) plain.Granted (o .before .if1 .left) (o .«open» .ensures) (c .enum-told .given .1)
+    (c .before .before .before .before .store .ensures ∙ stored-whole _ _ (o .before .if1 .left))
 
 same-length-2 : tie.Need-same-length-2
 same-length-2 c = search needs
@@ -35,7 +38,8 @@ same-length-2 c = search needs
 returns-3 : tie.Need-returns-3
 returns-3 c =
     let o = c .before .before .before .before .before .before .before .before in
-    open-here (opening (o .«open» .result)) (plain.Refused (c .before .answer .given .0 .0)) (o .before .if1 .left) (o .«open» .ensures) (c .before .answer .given .1) (c .before .before .before .before .before .store .ensures (o .before .if1 .left))
+    open-here (opening (o .«open» .result)) (plain.Refused (c .before .answer .given .0 .0)) (o .before .if1 .left) (o .«open» .ensures)
+    (c .before .answer .given .1) (c .before .before .before .before .before .store .ensures ∙ stored-whole _ _ (o .before .if1 .left))
 
 pub board-open-spec : {M : Type 1} → statement M
 board-open-spec =

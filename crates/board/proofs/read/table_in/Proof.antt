@@ -1,5 +1,9 @@
 -- `read::table_in` meets its contract: field by field. Assumes nothing.
+use mathlib.Core.Path.{sym, _∙_}
+use Rattle.cache.specs.Seen.{opening}
 use Rattle.board.specs.Layout.{tableIn}
+use Rattle.board.proofs.Length.{read-whole, read-other, opens-one}
+use denote.Ref.{now}
 use borrow.Author.Needs.{needs}
 use Rattle.board.proofs.read.table_in.Statement.{statement}
 use Rattle.board.proofs.read.table_in.Tie as tie
@@ -8,7 +12,9 @@ open-requires : tie.Need-open-requires
 open-requires c κs = search needs
 
 returns : tie.Need-returns
-returns c = λ e. absurd (c .before .before .if1 .taken e)
+returns c =
+    let opened = c .before in
+    opens-one (opening (opened .«open» .result)) (opened .«open» .ensures) ∙ sym (read-other _ (opened .before .if1 .taken))
 
 number-at-requires : tie.Need-number-at-requires
 number-at-requires c κs = search needs
@@ -21,7 +27,10 @@ slots-in-requires c κs = search needs
 
 returns-2 : tie.Need-returns-2
 unfolding tableIn
-returns-2 c = λ e. cc
+returns-2 c =
+    let test = c .before .before .before in
+    let bytes = now (test .before .before .args .bytes) in
+    _∙_ {b = tableIn bytes} (cc) (sym (read-whole bytes (test .if1 .left)))
 
 pub table-in-spec : {M : Type 1} → statement M
 table-in-spec =

@@ -12,6 +12,7 @@ use Rattle.spans.specs.Spans.{splice}
 use Rattle.spans.proofs.Laws.{length-splice, splice-none, splice-whole}
 use Rattle.cache.specs.Seen.{seen}
 use Rattle.board.specs.Layout.{inBytes, slotBytes, slotsBytes, bytesOf}
+use Rattle.board.proofs.Length.{stored-whole, stored-other}
 use Rattle.board.proofs.Laid.{Over, laid, length-slots, slots-more, length-table}
 use Rattle.board.proofs.write.store.Statement.{statement}
 use Rattle.board.proofs.write.store.Tie as tie
@@ -34,7 +35,7 @@ same-here c =
     ap length (c .loop .inv .1 .is) ∙ length-splice _ _ _ ∙ ap length (p2 .put2 .ensures) ∙ length-splice _ _ _ ∙ ap length (p1 .put .ensures) ∙ length-splice _ _ _
 
 returns : tie.Need-returns Inv-loop μ-loop
-returns c = λ e. absurd (c .if1 .taken e)
+returns c = sym (stored-other _ _ (c .if1 .taken))
 
 put-requires : tie.Need-put-requires Inv-loop μ-loop
 put-requires c κs = search needs
@@ -94,7 +95,10 @@ returns-2 c =
     let all : slotsBytes (take (at .loop .i) (a .t2 .slots)) ≡ slotsBytes (a .t2 .slots) = ap slotsBytes (take-all (at .loop .i) (a .t2 .slots) (omega (arith, c .loop-test .left, size start))) in
     let put = at .loop .inv .1 .is ∙ ap (λ (ys : List ℕ). splice (p2 .put2 .last .0) 8 ys) all in
     let whole = laid 8 (slotsBytes (a .t2 .slots)) (laid 4 (inBytes 4 (a .t2 .next)) (record { is = p1 .put .ensures }) (p2 .put2 .ensures) refl) put refl in
-    λ e. whole .is ∙ splice-whole (now (a .bytes)) (bytesOf (seen (a .t2))) (length-table (seen (a .t2)) (size start) ∙ sym e)
+    let test = p1 .before .before in
+    let e : length (now (a .bytes)) ≡ 2056 = test .if1 .left in
+    whole .is ∙ splice-whole (now (a .bytes)) (bytesOf (seen (a .t2))) (length-table (seen (a .t2)) (size start) ∙ sym e) ∙ sym
+    (stored-whole (now (a .bytes)) (seen (a .t2)) e)
 
 pub store-spec : {M : Type 1} → statement M
 store-spec =

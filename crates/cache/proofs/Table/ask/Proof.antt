@@ -49,7 +49,7 @@ returns-4 c =
     let a = e .before .before .before .before .before .before .before .args in
     let d = issued-here e in
     ask-granted (seen (a .self)) (a .number) ask.Committed refl (sound-here (e .before .before .before .before)) d
-    (Asked.committed (d, λ i s. c .before .find .ensures .none-below i (omega arith) (s .1, s .2)))
+    (Asked.committed refl (d, λ i s. c .before .find .ensures .none-below i (omega arith) (s .1, s .2)))
 
 mul-s : tie.Need-mul-s
 mul-s c = search needs
@@ -79,7 +79,7 @@ returns-6 c =
     let e = f .before .before in
     let a = e .before .before .before .before .before .before .before .args in
     ask-granted (seen (a .self)) (a .number) ask.Waiting refl (sound-here (e .before .before .before .before)) (issued-here e)
-    (Asked.waiting (f .before .find .result) (in-slot f) (ap isWaiting (c .enum-told2 .given .1)))
+    (Asked.waiting refl (f .before .find .result) (in-slot f) (ap isWaiting (c .enum-told2 .given .1)))
 
 returns-7 : tie.Need-returns-7
 returns-7 c =
@@ -87,7 +87,7 @@ returns-7 c =
     let e = f .before .before in
     let a = e .before .before .before .before .before .before .before .args in
     ask-granted (seen (a .self)) (a .number) ask.InFlight refl (sound-here (e .before .before .before .before)) (issued-here e)
-    (Asked.inFlight (f .before .find .result) (in-slot f) (ap isInFlight (c .enum-told3 .given .1)))
+    (Asked.inFlight refl (f .before .find .result) (in-slot f) (ap isInFlight (c .enum-told3 .given .1)))
 
 pub ask-spec : {M : Type 1} → statement M
 ask-spec =

@@ -11,7 +11,7 @@ use Rattle.rules.specs.declared.Slot.{Slot}
 use Rattle.rules.specs.Sizes.{blocks}
 use Rattle.rules.specs.Table as rules
 use Rattle.rules.specs.Table.{Sound, withSlots}
-use Rattle.rules.specs.Complete.{completed}
+use Rattle.rules.specs.Complete.{landedSlots, completedSlots, completed}
 use Rattle.rules.specs.Calls.{Completes}
 use Rattle.cache.specs.Seen.{seen}
 use Rattle.cache.proofs.Sent.{complete-unsound, complete-no-block, complete-none, complete-granted}
@@ -56,14 +56,15 @@ with-slots-requires : tie.Need-with-slots-requires
 with-slots-requires c κs = search needs
 
 returns-4 : tie.Need-returns-4
-unfolding completed
+unfolding completed completedSlots
 returns-4 c =
     let f = c .before .before in
     let e = f .before .before in
     let a = e .before .before .before .before .args in
     let on = f .before .patches-on .ensures in
     subst (λ (t : rules.Table). Completes (seen (a .self)) (a .block) (record { answer = answer.Granted; table = t }))
-    (sym (c .with-slots .ensures ∙ ap (λ (ss : List Slot). withSlots ss (seen (a .self))) (c .before .completed .ensures (a .block) (on .in-flight))))
+    (sym (c .with-slots .ensures
+    ∙ ap (λ (ss : List Slot). withSlots ss (seen (a .self))) (c .before .completed .ensures ∙ ap (landedSlots (a .self .slots)) (on .in-flight))))
     (complete-granted (seen (a .self)) (a .block) (sound-here (e .before)) (block-here e) (some-flies on (f .if3 .left)))
 
 pub complete-spec : {M : Type 1} → statement M

@@ -1,20 +1,19 @@
 -- `Table::create` meets its contract: what is judged early, the lowest slot, hard or soft with its room, and the patch, the image and the undo area that are made. Assumes nothing.
 use Prim.Native.Nat.{ℕ}
 use mathlib.Core.Path.{_≡_, sym, ap, subst, _∙_}
-use mathlib.Core.Bool.{false}
 use mathlib.Core.List.{List}
 use native.Mathlib.Omega.{arith}
 use borrow.Author.Needs.{needs}
 use denote.Ref.{now}
-use Rattle.masks.specs.Sets.{has, setOf}
+use Rattle.masks.specs.Sets.{setOf}
 use Rattle.masks.proofs.Decided.{said-yes}
 use Rattle.masks.proofs.Laws.{has-of}
 use Rattle.rules.specs.declared.Slot.{Slot}
 use Rattle.rules.specs.Table.{used}
 use Rattle.rules.specs.Create.{Change, Lowest, FreeSlot, HoldOf, accepted}
-use Rattle.slots.specs.Words.{RoomsBelow}
-use Rattle.accept.specs.declared.hold.Holding.{Holding}
-use Rattle.accept.specs.Asked.{LowestOr, Held}
+use Rattle.slots.specs.Words.{takenRooms}
+use Rattle.accept.specs.Asked.{LowestOr, Outside}
+use Rattle.accept.proofs.FreeRooms.{Means, held-means}
 use Rattle.accept.proofs.LowestFound.{lowest-same}
 use Rattle.cache.specs.Seen.{seen}
 use Rattle.cache.specs.Judged.{CreateReady, withPatch}
@@ -54,7 +53,7 @@ lowest-outside-requires : tie.Need-lowest-outside-requires
 lowest-outside-requires c κs = search needs
 
 -- a slot is free just where it is not among those in use
-free-slots : (ss : List Slot) {m r : ℕ} → m ≡ setOf (used ss) → LowestOr 64 (λ i. has m i ≡ false) r → LowestOr 64 (FreeSlot ss) r
+free-slots : (ss : List Slot) {m r : ℕ} → m ≡ setOf (used ss) → LowestOr 64 (Outside m) r → LowestOr 64 (FreeSlot ss) r
 free-slots ss {m} is-used =
     lowest-same (λ i l e. sym (has-of (used ss) m i is-used l) ∙ e) (λ i l e. has-of (used ss) m i is-used l ∙ e)
 
@@ -62,11 +61,11 @@ free-slots ss {m} is-used =
 judged-here : (c : tie.Else1)
     → let ss = start (c .before) .args .self .slots in
     let v = c .before .before .before .before .judge .result in
-    (v .used ≡ setOf (used ss)) × RoomsBelow ss 64 (v .rooms)
+    (v .used ≡ setOf (used ss)) × (v .rooms ≡ takenRooms ss)
 judged-here c =
     let v = c .before .before .before .before .judge in
     let sound = said-yes (v .result .sound) (v .ensures .decides) (ready-here c .sound) in
-    (v .ensures .used-slots sound, v .ensures .taken-rooms sound)
+    (rw sound at (v .ensures .used-slots), rw sound at (v .ensures .taken-rooms))
 
 -- the lowest free slot, if there is one
 lowest-of : (c : tie.After-lowest-outside) → LowestOr 64 (FreeSlot (start (c .before .before) .args .self .slots)) (c .lowest-outside .result)
@@ -110,14 +109,16 @@ returns-3 c =
     let e = g .before .before in
     let s = start (e .before) in
     create-no-room (seen (s .args .self)) (now (s .args .image)) (now (s .args .undo)) (change s) (ready-here e) (g .before .lowest-outside .result) (lowest-here g)
-    (subst (λ (x : Holding). Held (s .args .self .slots) (s .args .block) x) (c .enum-told .given .1) (f .hold-for .ensures (judged-here e .1)))
+    (subst (Means (s .args .self .slots) (s .args .block)) (c .enum-told .given .1)
+    (held-means (s .args .self .slots) (judged-here e .1) (f .hold-for .ensures)))
 
 -- where the patch is known to be hard or soft
 held-here : (c : tie.After-hold) → let a = start (c .before .before .before .before .before .before) .args in HoldOf (a .self .slots) (a .block) (c .hold .given .0 .0)
 held-here c =
     let e = c .before .before .before .before .before in
     let s = start (e .before) in
-    subst (λ (x : Holding). Held (s .args .self .slots) (s .args .block) x) (c .hold .given .1) (c .before .before .hold-for .ensures (judged-here e .1))
+    subst (Means (s .args .self .slots) (s .args .block)) (c .hold .given .1)
+    (held-means (s .args .self .slots) (judged-here e .1) (c .before .before .hold-for .ensures))
 
 patch-requires : tie.Need-patch-requires
 patch-requires c κs = ready-here (c .before .before .before .before .before .before) .len-most

@@ -1,13 +1,15 @@
 -- `Table::write` meets its contract: what is judged early, the largest set, the block handed out and the patches sent. Assumes nothing.
-use Prim.Native.Nat.{ℕ}
-use mathlib.Core.Path.{ap, subst, _∙_}
+use mathlib.Core.Path.{sym, ap, ap₂, subst, _∙_}
 use mathlib.Core.List.{List}
 use borrow.Author.Needs.{needs}
 use denote.Ref.{now}
 use Rattle.rules.specs.declared.Slot.{Slot}
 use Rattle.rules.specs.Table.{withSlots}
 use Rattle.rules.specs.Write.{Largest, sent}
+use Rattle.rules.specs.Rounds.{searched}
+use Rattle.rules.proofs.Rounds.{searched-largest}
 use Rattle.slots.specs.Words.{PatchesOn}
+use Rattle.send.proofs.Handed.{handed-out}
 use Rattle.cache.specs.Seen.{seen}
 use Rattle.cache.specs.Judged.{WriteReady}
 use Rattle.cache.proofs.Sent.{write-refused, write-only-empty, write-granted}
@@ -39,6 +41,13 @@ ready-here c = c .before .write-refusal .ensures .ready (c .if1 .left)
 on-here : (c : tie.Else1) → let a = start (c .before) .args in PatchesOn (a .self .slots) (a .block) (c .before .before .before .patches-on .result)
 on-here c = c .before .before .before .patches-on .ensures
 
+-- the set that goes is the largest
+largest-here : (c : tie.After-largest) → let a = start (c .before .before) .args in Largest (a .self .slots) (a .block) (c .largest .result)
+largest-here c =
+    let ss = start (c .before .before) .args .self .slots in
+    let on = on-here (c .before) in
+    subst (Largest ss _) (sym (c .largest .ensures ∙ ap₂ (searched ss) (on .hard) (on .waiting))) (searched-largest ss _)
+
 largest-requires : tie.Need-largest-requires
 largest-requires c κs = search needs
 
@@ -50,7 +59,7 @@ returns-2 c =
     let e = c .before .before in
     let a = start (e .before) .args in
     write-only-empty (seen (a .self)) (now (a .image)) (now (a .undo)) (now (a .handed)) (a .block) (ready-here e)
-    (subst (λ (s : ℕ). Largest (a .self .slots) (a .block) s) (c .if2 .taken) (c .before .largest .ensures (a .block) (on-here e)))
+    (subst (Largest (a .self .slots) (a .block)) (c .if2 .taken) (largest-here (c .before)))
 
 hand-out-requires : tie.Need-hand-out-requires
 hand-out-requires c κs = search needs
@@ -72,10 +81,13 @@ returns-3 c =
     let e = f .before .before in
     let a = start (e .before) .args in
     let r = ready-here e in
-    write-granted (seen (a .self)) (now (a .image)) (now (a .undo)) (now (a .handed)) (a .block) r (f .before .largest .result) (f .if2 .left) (f .before .largest .ensures (a .block) (on-here e))
+    let set = f .before .largest .result in
+    write-granted (seen (a .self)) (now (a .image)) (now (a .undo)) (now (a .handed)) (a .block) r set (f .if2 .left) (largest-here (f .before))
     (seen (c .with-slots .result)) (h .hand-out .last .0)
     (c .with-slots .ensures ∙ ap (λ (ss : List Slot). withSlots ss (seen (a .self))) (c .before .sent .ensures))
-    (h .hand-out .ensures (on-here e .waiting) (r .sound) (record { image-whole = r .image-whole; block-whole = r .block-whole; is-block = r .is-block }))
+    (h .hand-out .ensures
+    ∙ handed-out (a .self .first) (a .self .next) (a .block) set (a .self .slots) (now (a .image)) (now (a .undo)) (now (a .handed))
+    (r .sound) (r .is-block) (r .image-whole) (r .block-whole) (on-here e .waiting))
 
 pub write-spec : {M : Type 1} → statement M
 write-spec =

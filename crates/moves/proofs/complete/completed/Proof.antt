@@ -1,30 +1,15 @@
 -- `moves::complete::completed` meets its contract: a walk whose turn commits the slots of the set. Assumes nothing.
-use Prim.Native.Nat.{ℕ, _≤_, _-_}
-use mathlib.Core.Path.{_≡_, ap, ap₂, _∙_}
-use mathlib.Core.Bool.{Bool, cond, _&&_, not}
-use mathlib.Core.List.{List}
+use Prim.Native.Nat.{_≤_, _-_}
+use mathlib.Core.Path.{ap, _∙_}
+use mathlib.Core.Bool.{Bool}
 use native.Mathlib.Omega.{arith}
 use borrow.Author.Needs.{needs}
-use Rattle.masks.specs.Sets.{has, setOf}
-use Rattle.masks.proofs.Laws.{has-of, set-ext}
-use Rattle.rules.specs.declared.Slot.{Slot}
-use Rattle.rules.specs.Slots.{isUsed, freeSlot, withBefores}
-use Rattle.rules.specs.Table.{slotAt, slotsBy, fliesOn}
-use Rattle.rules.specs.Complete.{completedSlots}
-use Rattle.rules.proofs.SlotsBy.{slots-ext}
-use Rattle.moves.specs.Steps.{landedSlot}
+use Rattle.masks.specs.Sets.{has}
+use Rattle.rules.specs.Table.{slotAt}
+use Rattle.rules.specs.Complete.{landedSlot, landedSlots}
 use Rattle.moves.proofs.Walked.{Walked, walk-starts, walk-goes-on, walk-ends}
 use Rattle.moves.proofs.complete.completed.Statement.{statement}
 use Rattle.moves.proofs.complete.completed.Tie as tie
-
--- the slots that land are those of the block in flight, so what a turn makes of a slot is what Complete says
-landed-completed : (ss : List Slot) (b : ℕ) {m : ℕ} → m ≡ setOf (fliesOn ss b) → slotsBy (λ k. landedSlot m (has m k) (slotAt ss k)) ≡ completedSlots ss b
-unfolding completedSlots
-landed-completed ss b {m} e =
-    slots-ext _ _ (λ i l. let s = slotAt ss i in
-    ap₂ (λ (commits : Bool) (befores : ℕ). cond commits freeSlot (cond (isUsed (s .state)) (withBefores befores s) s))
-    (has-of (fliesOn ss b) m i e l)
-    (set-ext _ _ (λ k h. ap (λ (gone : Bool). has (s .befores) k && not gone) (has-of (fliesOn ss b) m k e h))))
 
 abbrev Inv-loop : tie.InvT-loop
 Inv-loop landed next₀ i₀ next i = (i ≤ 64) × Walked (λ k. landedSlot landed (has landed k)) next₀ next i
@@ -61,12 +46,17 @@ loop-less c = search needs
 
 loop-again : tie.Need-loop-again Inv-loop μ-loop
 loop-again c =
-    let at = c .before .before .before .before in
-    let s = slotAt (at .loop .next) (at .loop .i) in
-    (omega arith, walk-goes-on (at .loop .inv .1) (c .before .before .before .loop-test .taken) (c .landed-slot .ensures ∙ ap (λ (commits : Bool). landedSlot (at .before .args .landed) commits s) (c .before .has .ensures)))
+    let test = c .before .before .before in
+    let at = test .before in
+    let s = slotAt (at .loop .next) (at .loop .i) in (
+      omega arith,
+      walk-goes-on (at .loop .inv .1) (test .loop-test .taken)
+          (c .landed-slot .ensures ∙ ap (λ (commits : Bool). landedSlot (at .before .args .landed) commits s) (c .before .has .ensures)),
+    )
 
 returns : tie.Need-returns Inv-loop μ-loop
-returns c = λ b e. walk-ends (c .before .loop .inv .1) (c .loop-test .left) ∙ landed-completed _ b e
+unfolding landedSlots
+returns c = walk-ends (c .before .loop .inv .1) (c .loop-test .left)
 
 pub completed-spec : {M : Type 1} → statement M
 completed-spec =

@@ -7,8 +7,7 @@ use borrow.Author.Needs.{needs}
 use borrow.Author.Tests.{not-true, not-false}
 use Rattle.masks.specs.Sets as Sets
 use Rattle.rules.specs.Table.{slotAt}
-use Rattle.rules.specs.Write.{sentSlots}
-use Rattle.moves.specs.Steps.{sentSlot}
+use Rattle.rules.specs.Write.{sentSlot, sentSlots}
 use Rattle.moves.proofs.Walked.{Walked, walk-starts, walk-goes-on, walk-passes, walk-ends}
 use Rattle.moves.proofs.write.sent.Statement.{statement}
 use Rattle.moves.proofs.write.sent.Tie as tie

@@ -1,6 +1,6 @@
 -- `slots::sound::judge` meets its contract. The loop's invariant: each slot passed is sound alone and apart from those below it, and
 -- the sets and the marks have what the slots passed give. Assumes nothing.
-use Prim.Native.Nat.{ℕ, _^_, _≤_, _<_, _-_}
+use Prim.Native.Nat.{ℕ, _≤_, _<_, _-_}
 use mathlib.Core.Path.{_≡_, sym, ap, _∙_, subst}
 use mathlib.Core.Bool.{true}
 use mathlib.Core.List.{List}
@@ -11,17 +11,15 @@ use borrow.Author.Needs.{needs}
 use borrow.Author.Tests.{not-true, not-false}
 use lib.ListN.{length}
 use Rattle.masks.specs.Sets.{setBelow}
-use Rattle.masks.proofs.Decided.{clash, yes-of, no-of, yes-not, no-not, decides}
+use Rattle.masks.proofs.Decided.{clash, yes-of, no-of, yes-not, no-not}
 use Rattle.masks.proofs.Laws as sets
-use Rattle.rules.specs.declared.State.{State}
 use Rattle.rules.specs.declared.Slot.{Slot}
-use Rattle.rules.specs.Slots.{isUsed, roomOf}
 use Rattle.rules.specs.Table.{Sound, tableOf, used, slotAt}
 use Rattle.slots.specs.Tests.{HeaderInRange, Alone, marked}
-use Rattle.slots.specs.Words.{Gathered, RoomsBelow}
-use Rattle.slots.proofs.Gathered.{gathered-none, gathered-pass, gathered-more}
-use Rattle.slots.proofs.Rooms.{rooms-none, rooms-more, meets-shares, shares-meets}
-use Rattle.slots.proofs.Tested.{Tested, Follows, NumberApart, sound-tested, sound-sub, tested-sound, not-sound}
+use Rattle.rules.proofs.Words.{room-is, has-room-used}
+use Rattle.slots.proofs.Gathered.{gathered, gathered-none, gathered-pass, gathered-more}
+use Rattle.slots.proofs.Rooms.{roomed, free-roomless, rooms-more, meets-shares, shares-meets}
+use Rattle.slots.proofs.Tested.{Tested, follows, NumberApart, sound-tested, sound-within, tested-sound, not-sound}
 use Rattle.slots.proofs.sound.judge.Statement.{statement}
 use Rattle.slots.proofs.sound.judge.Tie as tie
 
@@ -32,10 +30,9 @@ MarkedBelow ss i marks = (k : ℕ) → k < i → used ss k ≡ true → marked m
 record Passed (first next : ℕ) (ss : List Slot) (marks : List ℕ) (taken in-use befores i : ℕ) : Type 0 where
   most : i ≤ 64
   size : length marks ≡ 16
-  rooms : RoomsBelow ss i taken
+  rooms : taken ≡ gathered (roomed ss) i
   uses : in-use ≡ setBelow (used ss) i
-  follows : Gathered (Follows ss) i befores
-  fits : befores < 2 ^ 64
+  befores-all : befores ≡ gathered (follows ss) i
   marks-below : MarkedBelow ss i marks
   tested : (k : ℕ) → k < i → Tested first next ss k
 
@@ -54,7 +51,7 @@ unsound-requires c κs = search needs
 returns : tie.Need-returns Inv-loop μ-loop
 returns c =
     let at = c .before in
-    not-sound _ (c .unsound .ensures)
+    not-sound (c .unsound .ensures)
     (λ s. no-not {P = HeaderInRange _ _} (at .before .header-in-range .result) (at .before .header-in-range .ensures) (at .if1 .taken)
     (record { first-least = s .first-least; first-most = s .first-most; next-least = s .next-least; next-most = s .next-most }))
 
@@ -62,10 +59,9 @@ loop-holds : tie.Need-loop-holds Inv-loop μ-loop
 loop-holds c = record {
   most = omega arith;
   size = search needs;
-  rooms = rooms-none (c .before .before .args .t3);
+  rooms = gathered-none _;
   uses = sym (sets.below-none _);
-  follows = gathered-none;
-  fits = omega arith;
+  befores-all = gathered-none _;
   marks-below = below-none _;
   tested = below-none _;
 }
@@ -89,19 +85,19 @@ loop-again : tie.Need-loop-again Inv-loop μ-loop
 loop-again c =
     let at = c .before .before .before .before in
     let passed = at .loop .inv in
+    let ss = at .before .before .before .args .t3 in
     let free = sym (c .before .is-used .ensures) ∙ not-true _ (c .if2 .taken) in
     record {
       most = omega arith;
       size = passed .size;
-      rooms = gathered-pass (passed .rooms) (λ r e. clash (ap isUsed e) free);
-      uses = passed .uses ∙ sets.below-pass (used (at .before .before .before .args .t3)) (at .loop .i) free;
-      follows = gathered-pass (passed .follows) (λ r h. clash (h .0) free);
-      fits = passed .fits;
+      rooms = passed .rooms ∙ gathered-pass (roomed ss) (at .loop .i) (free-roomless ss (at .loop .i) free);
+      uses = passed .uses ∙ sets.below-pass (used ss) (at .loop .i) free;
+      befores-all = passed .befores-all ∙ gathered-pass (follows ss) (at .loop .i) (λ r. rw free);
       marks-below = below-more _ _ (passed .marks-below) (λ u. absurd (clash u free));
       tested = below-more _ _ (passed .tested) (record {
         alone = λ u. absurd (clash u free);
         number = λ u. absurd (clash u free);
-        room = λ j r b e f. clash (ap isUsed e) free;
+        room = λ j r b e f. clash (has-room-used ss (at .loop .i) r e) free;
       });
     }
 
@@ -126,7 +122,7 @@ returns-2 : tie.Need-returns-2 Inv-loop μ-loop
 returns-2 c =
     let test = c .before in
     let at = test .before .before in
-    not-sound _ (c .unsound2 .ensures)
+    not-sound (c .unsound2 .ensures)
     (λ s. no-not {P = Alone _ _ _ _} (test .before .sound-alone .result) (test .before .sound-alone .ensures) (test .if3 .taken) (passes at s .alone (in-use at)))
 
 mark-requires : tie.Need-mark-requires Inv-loop μ-loop
@@ -142,7 +138,7 @@ returns-3 : tie.Need-returns-3 Inv-loop μ-loop
 returns-3 c =
     let test = c .before in
     let at = test .before .before .before .before .before .before .before in
-    not-sound _ (c .unsound3 .ensures) (λ s. passes at s .number (in-use at) _ (test .if5 .taken) (test .before .find .ensures .there (omega arith)))
+    not-sound (c .unsound3 .ensures) (λ s. passes at s .number (in-use at) _ (test .if5 .taken) (test .before .find .ensures .there (omega arith)))
 
 room-set-requires : tie.Need-room-set-requires Inv-loop μ-loop
 room-set-requires c κs = search needs
@@ -157,10 +153,12 @@ returns-4 : tie.Need-returns-4 Inv-loop μ-loop
 returns-4 c =
     let test = c .before in
     let at = test .before .before .before .before .before .before .before .before in
+    let loop = at .before .before .before .before in
+    let ss = loop .before .before .before .args .t3 in
     let shared =
-    meets-shares (at .before .before .before .before .before .before .before .args .t3) (at .before .before .before .before .loop .inv .rooms)
+    meets-shares ss (loop .loop .i) (loop .loop .inv .rooms)
     (test .before .before .room-set .ensures) (yes-of (test .before .meets .result) (test .before .meets .ensures) (test .if6 .taken)) in
-    not-sound _ (c .unsound4 .ensures) (λ s. passes at s .room (shared .0) (shared .1) (shared .2) (shared .3) (shared .4))
+    not-sound (c .unsound4 .ensures) (λ s. passes at s .room (shared .0) (shared .1) (shared .2) (shared .3) (shared .4))
 
 joined-requires : tie.Need-joined-requires Inv-loop μ-loop
 joined-requires c κs = search needs
@@ -204,39 +202,58 @@ loop-again-2 c =
     record {
       most = omega arith;
       size = marks .mark .ensures .size ∙ passed .size;
-      rooms = subst (RoomsBelow ss _) (sym (c .before .before .joined .ensures)) (rooms-more ss (passed .rooms) (rooms .room-set .ensures));
+      rooms = c .before .before .joined .ensures ∙ rooms-more ss (at .loop .i) (passed .rooms) (rooms .room-set .ensures);
       uses = c .before .with .ensures ∙ sets.with-below (used ss) (at .loop .i) _ (passed .uses) (kept .before .before .before .loop-test .taken) u;
-      follows = subst (Gathered (Follows ss) _) (sym (c .joined2 .ensures)) (gathered-more (passed .follows) _ (λ r l h. h .1) (λ r l h. (u, h)));
-      fits = rw (c .joined2 .ensures) (sets.set-lt _);
+      befores-all = c .joined2 .ensures ∙ gathered-more (follows ss) (passed .befores-all) _ (λ r l. rw u);
       marks-below = below-more _ _ (λ k l v. marks .mark .ensures .kept _ (passed .marks-below k l v)) (λ v. marks .mark .ensures .is);
       tested = below-more _ _ (passed .tested) (record {
         alone = λ v. sound;
         number = λ v. apart number;
         room = λ j r b e f.
-            let most : r < 16 = subst (λ (u : State). roomOf u < 16) e (sound .room-most) in
+            let most : r < 16 = subst (λ (q : ℕ). q < 16) (room-is (slotAt ss (at .loop .i) .state) r e) (sound .room-most) in
             no-of (free .before .meets .result) (free .before .meets .ensures) (free .if6 .left)
-            (shares-meets ss (passed .rooms) (rooms .room-set .ensures) j r b (omega arith) e f);
+            (shares-meets ss (at .loop .i) (passed .rooms) (rooms .room-set .ensures) j r b (omega arith) e f);
       });
     }
 
 within-requires : tie.Need-within-requires Inv-loop μ-loop
 within-requires c κs = search needs
 
+unsound-requires-5 : tie.Need-unsound-requires-5 Inv-loop μ-loop
+unsound-requires-5 c κs = search needs
+
+-- past the walk all slots are passed
+all-passed : (c : tie.After-within Inv-loop μ-loop)
+    → let at = c .before .before in
+    let begun = at .before .before in
+    let a = begun .before .args in
+    Passed (a .first) (a .next) (a .t3) (at .loop .marks) (at .loop .rooms) (at .loop .used) (at .loop .befores) 64
+all-passed c =
+    let at = c .before .before in
+    let begun = at .before .before in
+    let a = begun .before .args in
+    let all : at .loop .i ≡ 64 = omega arith in
+    subst (Passed (a .first) (a .next) (a .t3) (at .loop .marks) (at .loop .rooms) (at .loop .used) (at .loop .befores)) all (at .loop .inv)
+
 returns-5 : tie.Need-returns-5 Inv-loop μ-loop
 returns-5 c =
-    let at = c .before .before in
-    let ss = at .before .before .before .args .t3 in
-    let passed = at .loop .inv in
-    let all : at .loop .i ≡ 64 = omega arith in
-    let follows = subst (λ (n : ℕ). Gathered (Follows ss) n (at .loop .befores)) all (passed .follows) in
-    let uses = passed .uses ∙ ap (setBelow (used ss)) all in
-    let header = yes-not {P = HeaderInRange _ _} (at .before .before .header-in-range .result) (at .before .before .header-in-range .ensures) (at .before .if1 .left) in
+    let test = c .before in
+    let at = test .before in
+    let passed = all-passed at in
+    not-sound (c .unsound5 .ensures)
+    (λ s. clash (sound-within (passed .befores-all) (passed .uses) s) (sym (at .within .ensures) ∙ not-true _ (test .if7 .taken)))
+
+returns-6 : tie.Need-returns-6 Inv-loop μ-loop
+returns-6 c =
+    let at = c .before in
+    let walked = at .before .before in
+    let start = walked .before in
+    let passed = all-passed at in
+    let header = yes-not {P = HeaderInRange _ _} (start .before .header-in-range .result) (start .before .header-in-range .ensures) (start .if1 .left) in
     record {
-      decides = decides (c .within .result)
-          (λ e. tested-sound follows uses header (λ i l. passed .tested i (omega arith)) (yes-of (c .within .result) (c .within .ensures) e))
-          (λ e s. no-of (c .within .result) (c .within .ensures) e (sound-sub follows uses s (passed .fits)));
-      used-slots = λ e. uses;
-      taken-rooms = λ e. subst (λ (n : ℕ). RoomsBelow ss n (at .loop .rooms)) all (passed .rooms);
+      decides = tested-sound (passed .befores-all) (passed .uses) header (passed .tested) (sym (at .within .ensures) ∙ not-false _ (c .if7 .left));
+      used-slots = passed .uses;
+      taken-rooms = passed .rooms;
     }
 
 pub judge-spec : {M : Type 1} → statement M
@@ -273,4 +290,6 @@ judge-spec =
     loop-less-2
     loop-again-2
     within-requires
-    returns-5)
+    unsound-requires-5
+    returns-5
+    returns-6)

@@ -1,4 +1,4 @@
--- `slots::words::room_set` meets its contract: each arm of the matches is a case of hasRoom. Assumes nothing.
+-- `slots::sound::room_set` meets its contract: each arm of the matches is a case of hasRoom. Assumes nothing.
 use Prim.Native.Nat.{ℕ}
 use mathlib.Core.Path.{_≡_, sym, ap, _∙_}
 use mathlib.Core.Bool.{Bool, false, _||_}
@@ -9,9 +9,9 @@ use Rattle.masks.proofs.Laws.{has-none, has-set, set-ext, set-lt, no-member}
 use Rattle.rules.specs.declared.Hold.{Hold}
 use Rattle.rules.specs.declared.State.{State}
 use Rattle.rules.specs.declared.State.the-variants as state
-use Rattle.slots.specs.Words.{hasRoom}
-use Rattle.slots.proofs.words.room_set.Statement.{statement}
-use Rattle.slots.proofs.words.room_set.Tie as tie
+use Rattle.rules.specs.Slots.{hasRoom}
+use Rattle.slots.proofs.sound.room_set.Statement.{statement}
+use Rattle.slots.proofs.sound.room_set.Tie as tie
 
 -- where no room passes, the set is empty
 none-of : (p : ℕ → Bool) → ((r : ℕ) → p r ≡ false) → 0 ≡ setOf p
