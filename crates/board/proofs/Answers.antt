@@ -21,7 +21,8 @@ use Rattle.rules.specs.Table.{Table}
 use Rattle.rules.specs.Create.{Change, HoldOf}
 use Rattle.rules.specs.Ask.{askWord}
 use Rattle.rules.specs.Refusals.{First, WrongSize}
-use Rattle.rules.specs.Calls.{plainNumber, Opening, Opens, createNumber, patchNumber, hardOrSoft, Creation, Accepts, Creates, writeNumber, sentSet, Writing, Writes, Completion, Completes, askNumber, Asks, countNumber, counted, Counts}
+use Rattle.rules.specs.Calls.{plainNumber, Opening, Opens, createNumber, patchNumber, hardOrSoft, Creation, Accepts, Creates, writeNumber, sentSet, Writing}
+use Rattle.rules.specs.Calls.{Writes, Completion, Completes, askNumber, Asks, countNumber, counted, Counts}
 use Rattle.board.specs.Layout.{tableBytes, IsTable, tableIn, bytesOf}
 use Rattle.board.specs.Calls.{tableAfter, noTableCases, OpenCall, holdNumber, CreateEnd, createNone, CreateCall, WriteEnd, writeNone, WriteCall}
 use Rattle.board.specs.Calls.{CompleteCall, AskCall, CountCall}
@@ -31,7 +32,8 @@ use Rattle.board.specs.Calls.{CompleteCall, AskCall, CountCall}
 pub open-other : (table : List ℕ) (first : ℕ) → (length table ≡ tableBytes → ⊥) → OpenCall table first 2 table
 open-other table first n = record { sized = λ e. absurd (n e); other = λ d. (refl, refl) }
 
-pub open-here : {table after : List ℕ} {first : ℕ} (o : Opening) (a : Answer) → length table ≡ tableBytes → Opens first o → o .answer ≡ a → after ≡ bytesOf (o .table)
+pub open-here : {table after : List ℕ} {first : ℕ} (o : Opening) (a : Answer) → length table ≡ tableBytes → Opens first o → o .answer ≡ a
+    → after ≡ bytesOf (o .table)
     → OpenCall table first (plainNumber a) after
 open-here o a e h p q = record { sized = λ d. (o, h, ap plainNumber (sym p), q); other = λ n. absurd (n e) }
 
@@ -50,7 +52,8 @@ ask-here {n = n} a b i e h p = record {
 pub count-none : (table : List ℕ) (b : ℕ) → (IsTable table → ⊥) → CountCall table b 2 0
 count-none table b d = record { is-table = λ i. absurd (d i); no-table = λ e. (refl, refl) }
 
-pub count-here : {table : List ℕ} {n : ℕ} {t : Table} (a b : CountAnswer) → IsTable table → t ≡ tableIn table → Counts t n a → a ≡ b → CountCall table n (countNumber b) (counted b)
+pub count-here : {table : List ℕ} {n : ℕ} {t : Table} (a b : CountAnswer) → IsTable table → t ≡ tableIn table → Counts t n a → a ≡ b
+    → CountCall table n (countNumber b) (counted b)
 count-here {n = n} a b i e h p = record {
   is-table = λ d. (b, subst (λ (t : Table). Counts t n b) e (subst (Counts _ n) p h), refl, refl);
   no-table = λ d. absurd (d i);
@@ -64,7 +67,13 @@ complete-none table b d = record { is-table = λ i. absurd (d i); no-table = λ 
 module _ {table : List ℕ} {b : ℕ} {t : Table} (o : Completion) (i : IsTable table) (e : t ≡ tableIn table) (h : Completes t b o) where
   pub complete-granted-here : {after : List ℕ} → o .answer ≡ plain.Granted → after ≡ bytesOf (o .table) → CompleteCall table b 0 after
   complete-granted-here p q = record {
-    is-table = λ d. (o, subst (λ (x : Table). Completes x b o) e h, ap plainNumber (sym p), q ∙ ap (λ (a : Answer). tableAfter (plainNumber a) table (o .table)) (sym p));
+    is-table = λ d. (
+      o,
+      subst (λ (x : Table). Completes x b o) e h,
+      ap plainNumber (sym p),
+      q ∙ ap
+          (λ (a : Answer). tableAfter (plainNumber a) table (o .table)) (sym p),
+    );
     no-table = λ d. absurd (d i);
   }
 
@@ -81,12 +90,14 @@ module _ {table : List ℕ} {b : ℕ} {t : Table} (o : Completion) (i : IsTable 
 
 -- ---- create
 
-pub create-none : (table image undo : List ℕ) (c : Change) (k : ℕ) → (IsTable table → ⊥) → First (noTableCases table (WrongSize 16384 image ⊎ WrongSize 1024 undo)) k
+pub create-none : (table image undo : List ℕ) (c : Change) (k : ℕ) → (IsTable table → ⊥)
+    → First (noTableCases table (WrongSize 16384 image ⊎ WrongSize 1024 undo)) k
     → CreateCall table image undo c (createNone table image undo k)
 create-none table image undo c k d f = record { is-table = λ i. absurd (d i); no-table = λ e. (f, refl) }
 
 -- a room is below 16, so its number fits
-pub hold-fits : {t : Table} {image undo : List ℕ} {c : Change} {o : Creation} {n : ℕ} {h : Hold} → Creates t image undo c o → o .answer ≡ create.Granted n h → holdNumber (some h) < 4294967296
+pub hold-fits : {t : Table} {image undo : List ℕ} {c : Change} {o : Creation} {n : ℕ} {h : Hold} → Creates t image undo c o → o .answer ≡ create.Granted n h
+    → holdNumber (some h) < 4294967296
 hold-fits {t} {image} {undo} {c} {o} {n} {h} made p = by (g .hold) (g .hard-or-soft) same
   where
     g : Accepts t image undo c o
@@ -104,14 +115,21 @@ module _ {table image undo : List ℕ} {c : Change} {t : Table} (o : Creation) (
       → s ≡ record { refusal = createNumber a; number = patchNumber a; hold = holdNumber (hardOrSoft a); table = tableAfter (createNumber a) table (o .table); image = o .image; undo = o .undo }
       → CreateCall table image undo c s
   create-end a p s q = record {
-    is-table = λ d. (o, subst (λ (x : Table). Creates x image undo c o) e h, subst (λ (y : CreateAnswer). s ≡ record { refusal = createNumber y; number = patchNumber y; hold = holdNumber (hardOrSoft y); table = tableAfter (createNumber y) table (o .table); image = o .image; undo = o .undo }) (sym p) q);
+    is-table = λ d. (
+      o,
+      subst (λ (x : Table). Creates x image undo c o) e h,
+      subst
+          (λ (y : CreateAnswer). s ≡ record { refusal = createNumber y; number = patchNumber y; hold = holdNumber (hardOrSoft y); table = tableAfter (createNumber y) table (o .table); image = o .image; undo = o .undo }) (sym p) q,
+    );
     no-table = λ d. absurd (d i);
   }
 
-  pub create-granted-here : {after : List ℕ} {held : ℕ} (n : ℕ) (k : Hold) → o .answer ≡ create.Granted n k → held ≡ holdNumber (some k) → after ≡ bytesOf (o .table)
+  pub create-granted-here : {after : List ℕ} {held : ℕ} (n : ℕ) (k : Hold) → o .answer ≡ create.Granted n k → held ≡ holdNumber (some k)
+      → after ≡ bytesOf (o .table)
       → CreateCall table image undo c (record { refusal = 0; number = n; hold = held; table = after; image = o .image; undo = o .undo })
   create-granted-here n k p q s =
-      create-end (create.Granted n k) p _ (ap₂ (λ (x : ℕ) (y : List ℕ). record { refusal = 0; number = n; hold = x; table = y; image = o .image; undo = o .undo }) q s)
+      create-end (create.Granted n k) p _
+      (ap₂ (λ (x : ℕ) (y : List ℕ). record { refusal = 0; number = n; hold = x; table = y; image = o .image; undo = o .undo }) q s)
 
   pub create-refused-here : (k : ℕ) → o .answer ≡ create.Refused k
       → CreateCall table image undo c (record { refusal = k; number = 0; hold = 0; table = table; image = o .image; undo = o .undo })
@@ -124,16 +142,23 @@ module _ {table image undo : List ℕ} {c : Change} {t : Table} (o : Creation) (
 
 -- ---- write
 
-pub write-none : (table image undo handed : List ℕ) (b k : ℕ) → (IsTable table → ⊥) → First (noTableCases table (WrongSize 16384 image ⊎ (WrongSize 1024 undo ⊎ WrongSize 256 handed))) k
+pub write-none : (table image undo handed : List ℕ) (b k : ℕ) → (IsTable table → ⊥)
+    → First (noTableCases table (WrongSize 16384 image ⊎ (WrongSize 1024 undo ⊎ WrongSize 256 handed))) k
     → WriteCall table image undo handed b (writeNone table image undo handed k)
 write-none table image undo handed b k d f = record { is-table = λ i. absurd (d i); no-table = λ e. (f, refl) }
 
-module _ {table image undo handed : List ℕ} {b : ℕ} {t : Table} (o : Writing) (i : IsTable table) (e : t ≡ tableIn table) (h : Writes t image undo handed b o) where
+module _ {table image undo handed : List ℕ} {b : ℕ} {t : Table} (o : Writing) (i : IsTable table) (e : t ≡ tableIn table)
+    (h : Writes t image undo handed b o) where
   write-end : (a : WriteAnswer) → o .answer ≡ a → (s : WriteEnd)
       → s ≡ record { refusal = writeNumber a; set = sentSet a; table = tableAfter (writeNumber a) table (o .table); image = o .image; undo = o .undo; handed = o .block }
       → WriteCall table image undo handed b s
   write-end a p s q = record {
-    is-table = λ d. (o, subst (λ (x : Table). Writes x image undo handed b o) e h, subst (λ (y : WriteAnswer). s ≡ record { refusal = writeNumber y; set = sentSet y; table = tableAfter (writeNumber y) table (o .table); image = o .image; undo = o .undo; handed = o .block }) (sym p) q);
+    is-table = λ d. (
+      o,
+      subst (λ (x : Table). Writes x image undo handed b o) e h,
+      subst
+          (λ (y : WriteAnswer). s ≡ record { refusal = writeNumber y; set = sentSet y; table = tableAfter (writeNumber y) table (o .table); image = o .image; undo = o .undo; handed = o .block }) (sym p) q,
+    );
     no-table = λ d. absurd (d i);
   }
 

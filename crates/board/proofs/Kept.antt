@@ -29,7 +29,8 @@ use Rattle.rules.specs.Calls.{plainNumber, createNumber, writeNumber, Opening, 
 use Rattle.rules.proofs.Cases.{passed}
 use Rattle.rules.proofs.SlotsBy.{slot-by, length-by}
 use Rattle.rules.proofs.Granted.{CreatePassed, create-passed}
-use Rattle.board.specs.Layout.{numberAt, stateOf, slotIn, slotStart, tableIn, IsTable, inBytes, tagOf, slotBytes, slotsBytes, bytesOf, SlotFits, TableFits}
+use Rattle.board.specs.Layout.{numberAt, stateOf, slotIn, slotStart, tableIn, IsTable, inBytes, tagOf, slotBytes, slotsBytes, bytesOf, SlotFits}
+use Rattle.board.specs.Layout.{TableFits}
 use Rattle.board.proofs.Numbers.{number-4, number-8}
 use Rattle.board.proofs.RoundTrip.{read-back}
 
@@ -63,7 +64,10 @@ slot-bytes s =
     let d = c ++ inBytes 4 (s .block) in
     let e = d ++ inBytes 4 (s .offset) in
     let f = e ++ inBytes 4 (s .len) in
-    more-bytes f 8 (s .befores) (more-bytes e 4 (s .len) (more-bytes d 4 (s .offset) (more-bytes c 4 (s .block) (more-bytes b 4 (s .number) (more-bytes a 4 (roomOf (s .state)) (number-bytes 4 (tagOf (s .state))))))))
+    more-bytes f 8 (s .befores)
+    (more-bytes e 4 (s .len)
+    (more-bytes d 4 (s .offset)
+    (more-bytes c 4 (s .block) (more-bytes b 4 (s .number) (more-bytes a 4 (roomOf (s .state)) (number-bytes 4 (tagOf (s .state))))))))
 
 slots-bytes : (ss : List Slot) → Bytes (slotsBytes ss)
 unfolding slotsBytes
@@ -79,7 +83,9 @@ bytes-of t =
 state-fits : (tag room : ℕ) → room < 2 ^ 32 → roomOf (stateOf tag room) < 2 ^ 32
 state-fits tag room l = by (eqb tag 0) (eqb tag 1) (eqb tag 2) (eqb tag 3)
   where
-    by : (p q r s : Bool) → roomOf (cond p state.Free (cond q (state.Waiting hold.Hard) (cond r (state.Waiting (hold.Soft room)) (cond s (state.InFlight kind.Hard) (state.InFlight kind.Soft))))) < 2 ^ 32
+    by : (p q r s : Bool)
+        → roomOf (cond p state.Free
+        (cond q (state.Waiting hold.Hard) (cond r (state.Waiting (hold.Soft room)) (cond s (state.InFlight kind.Hard) (state.InFlight kind.Soft))))) < 2 ^ 32
     by true q r s = omega arith
     by false true r s = omega arith
     by false false true s = l
@@ -105,12 +111,14 @@ module _ (xs : List ℕ) (b : Bytes xs) where
   }
 
 -- slots that fit, one by one, make a table that fits
-by-fits : (first next : ℕ) (f : ℕ → Slot) → first < 2 ^ 32 → next < 2 ^ 32 → ((i : ℕ) → i < slots → SlotFits (f i)) → TableFits (record { first = first; next = next; slots = slotsBy f })
+by-fits : (first next : ℕ) (f : ℕ → Slot) → first < 2 ^ 32 → next < 2 ^ 32 → ((i : ℕ) → i < slots → SlotFits (f i))
+    → TableFits (record { first = first; next = next; slots = slotsBy f })
 by-fits first next f a b each = record { first = a; next = b; size = length-by f; each = λ i l. subst SlotFits (sym (slot-by f i l)) (each i l) }
 
 table-fits : (xs : List ℕ) → Bytes xs → TableFits (tableIn xs)
 unfolding tableIn
-table-fits xs b = by-fits (numberAt xs 0 4) (numberAt xs 4 4) (λ i. slotIn xs (slotStart i)) (four-fits xs b 0) (four-fits xs b 4) (λ i l. slot-fits xs b (slotStart i))
+table-fits xs b = by-fits (numberAt xs 0 4) (numberAt xs 4 4) (λ i. slotIn xs (slotStart i)) (four-fits xs b 0) (four-fits xs b 4)
+    (λ i l. slot-fits xs b (slotStart i))
 
 -- ---- what a call makes of slots that fit, fits
 
@@ -164,7 +172,8 @@ module _ (t : Table) (f : TableFits t) where
     befores = set-lt _;
   }
 
-  accepted-fits : {image undo : List ℕ} (c : Change) (j : ℕ) (h : Hold) → CreatePassed t image undo c → HoldOf (t .slots) (c .block) h → TableFits (accepted t c j h)
+  accepted-fits : {image undo : List ℕ} (c : Change) (j : ℕ) (h : Hold) → CreatePassed t image undo c → HoldOf (t .slots) (c .block) h
+      → TableFits (accepted t c j h)
   unfolding accepted acceptedSlots
   accepted-fits c j h v o =
       let p = patch t c h in
@@ -201,13 +210,16 @@ open-kept n o p = go (ℕ-discrete (plainNumber (o .answer)) 0)
         subst (λ (x : Opening). ReadsBack (x .table)) (sym (p .grant z)) (read-back (opened n) (opened-fits n (omega (arith, b))))
 
 module _ (xs : List ℕ) (bytes : Bytes xs) where
-  pub create-kept : (image undo : List ℕ) (c : Change) (o : Creation) → Creates (tableIn xs) image undo c o → createNumber (o .answer) ≡ 0 → ReadsBack (o .table)
+  pub create-kept : (image undo : List ℕ) (c : Change) (o : Creation) → Creates (tableIn xs) image undo c o → createNumber (o .answer) ≡ 0
+      → ReadsBack (o .table)
   create-kept image undo c o p z =
       let g = p .grant z in
       let v = create-passed p z in
-      subst (λ (x : Creation). ReadsBack (x .table)) (sym (g .whole)) (read-back (accepted (tableIn xs) c (g .slot) (g .hold)) (accepted-fits (tableIn xs) (table-fits xs bytes) c (g .slot) (g .hold) v (g .hard-or-soft)))
+      subst (λ (x : Creation). ReadsBack (x .table)) (sym (g .whole))
+      (read-back (accepted (tableIn xs) c (g .slot) (g .hold)) (accepted-fits (tableIn xs) (table-fits xs bytes) c (g .slot) (g .hold) v (g .hard-or-soft)))
 
-  pub write-kept : (image undo handed : List ℕ) (b : ℕ) (o : Writing) → Writes (tableIn xs) image undo handed b o → writeNumber (o .answer) ≡ 0 → ReadsBack (o .table)
+  pub write-kept : (image undo handed : List ℕ) (b : ℕ) (o : Writing) → Writes (tableIn xs) image undo handed b o → writeNumber (o .answer) ≡ 0
+      → ReadsBack (o .table)
   write-kept image undo handed b o p z =
       let g = p .grant z in
       subst (λ (x : Writing). ReadsBack (x .table)) (sym (g .whole))
@@ -215,4 +227,5 @@ module _ (xs : List ℕ) (bytes : Bytes xs) where
 
   pub complete-kept : (b : ℕ) (o : Completion) → Completes (tableIn xs) b o → plainNumber (o .answer) ≡ 0 → ReadsBack (o .table)
   complete-kept b o p z =
-      subst (λ (x : Completion). ReadsBack (x .table)) (sym (p .grant z)) (read-back (completed (tableIn xs) b) (completed-fits (tableIn xs) (table-fits xs bytes) b))
+      subst (λ (x : Completion). ReadsBack (x .table)) (sym (p .grant z))
+      (read-back (completed (tableIn xs) b) (completed-fits (tableIn xs) (table-fits xs bytes) b))

@@ -27,7 +27,8 @@ pub record Over (was : List ℕ) (at : ℕ) (ys now : List ℕ) : Type 0 where
   pub is : now ≡ splice was at ys
 
 -- k bytes are laid, and zs right after them
-pub laid : {was then now ys : List ℕ} {at : ℕ} (k : ℕ) (zs : List ℕ) → Over was at ys then → now ≡ splice then (at + k) zs → k ≡ length ys → Over was at (ys ++ zs) now
+pub laid : {was then now ys : List ℕ} {at : ℕ} (k : ℕ) (zs : List ℕ) → Over was at ys then → now ≡ splice then (at + k) zs → k ≡ length ys
+    → Over was at (ys ++ zs) now
 laid {was} {then} {now} {ys} {at} k zs o q e = record { is = q ∙ rw (o .is, e) (splice-on was at ys zs) }
 
 -- one byte stored is one byte laid

@@ -64,7 +64,8 @@ module _ {table : List ℕ} where
           let b = q .no-table n in
           a .1 ∙ ap (createNone table image undo) (first-one (a .0) (b .0)) ∙ sym (b .1)
 
-  pub write-call-one : {image undo handed : List ℕ} {b : ℕ} {e e′ : WriteEnd} → WriteCall table image undo handed b e → WriteCall table image undo handed b e′ → e ≡ e′
+  pub write-call-one : {image undo handed : List ℕ} {b : ℕ} {e e′ : WriteEnd} → WriteCall table image undo handed b e
+      → WriteCall table image undo handed b e′ → e ≡ e′
   write-call-one {image} {undo} {handed} {b} {e} {e′} p q = by (table-or-not table)
     where
       by : Dec (IsTable table) → e ≡ e′
@@ -84,8 +85,11 @@ module _ {table : List ℕ} where
       by (yes i) =
           let x = p .is-table i in
           let y = q .is-table i in
-          let o = complete-one (tableIn table) b (x .0) (y .0) (x .1) (y .1) in
-          (x .2 ∙ ap (λ (z : Completion). plainNumber (z .answer)) o ∙ sym (y .2), x .3 ∙ ap (λ (z : Completion). tableAfter (plainNumber (z .answer)) table (z .table)) o ∙ sym (y .3))
+          let o = complete-one (tableIn table) b (x .0) (y .0) (x .1) (y .1) in (
+            x .2 ∙ ap (λ (z : Completion). plainNumber (z .answer)) o ∙ sym (y .2),
+            x .3 ∙ ap
+                (λ (z : Completion). tableAfter (plainNumber (z .answer)) table (z .table)) o ∙ sym (y .3),
+          )
       by (no n) = (p .no-table n .0 ∙ sym (q .no-table n .0), p .no-table n .1 ∙ sym (q .no-table n .1))
 
   pub ask-call-one : {n k k′ s s′ : ℕ} → AskCall table n k s → AskCall table n k′ s′ → (k ≡ k′) × (s ≡ s′)

@@ -15,7 +15,8 @@ use Rattle.rules.specs.Sizes.{slots}
 use Rattle.rules.specs.Slots.{roomOf, freeSlot}
 use Rattle.rules.specs.Table.{Table, slotAt, tableOf}
 use Rattle.rules.proofs.SlotsBy.{slots-are}
-use Rattle.board.specs.Layout.{slotStart, numberAt, stateOf, slotIn, tableIn, IsTable, inBytes, tagOf, slotBytes, slotsBytes, bytesOf, SlotFits, TableFits}
+use Rattle.board.specs.Layout.{slotStart, numberAt, stateOf, slotIn, tableIn, IsTable, inBytes, tagOf, slotBytes, slotsBytes, bytesOf, SlotFits}
+use Rattle.board.specs.Layout.{TableFits}
 use Rattle.board.proofs.Laid.{length-slots, slots-append, length-table}
 
 -- ---- one number
@@ -71,7 +72,8 @@ unfolding numberAt inBytes slotBytes slotIn
 slot-back s rest f =
     same-slot
     (ap (λ (tag : ℕ). stateOf tag (numberAt (inBytes 4 (roomOf (s .state))) 0 4)) (tag-back s rest) ∙ state-back (s .state) (f .room))
-    (four-back (s .number) (f .number)) (four-back (s .block) (f .block)) (four-back (s .offset) (f .offset)) (four-back (s .len) (f .len)) (eight-back (s .befores) (f .befores))
+    (four-back (s .number) (f .number)) (four-back (s .block) (f .block)) (four-back (s .offset) (f .offset)) (four-back (s .len) (f .len))
+    (eight-back (s .befores) (f .befores))
 
 slot-past : (pre ys : List ℕ) → slotIn (pre ++ ys) (length pre) ≡ slotIn ys 0
 unfolding slotIn
@@ -105,7 +107,8 @@ slot-there t i w f =
 tag-there : (t : Table) (i : ℕ) → Stands t i → numberAt (bytesOf t) (slotStart i) 4 ≤ 4
 tag-there t i w =
     subst (λ (x : ℕ). x ≤ 4)
-    (sym (ap₂ (λ (bytes : List ℕ) (at : ℕ). numberAt bytes at 4) (w .whole) (sym (w .start)) ∙ number-first (w .pre) (slotBytes (slotAt (t .slots) i) ++ w .rest) 4 ∙ tag-back (slotAt (t .slots) i) (w .rest)))
+    (sym (ap₂ (λ (bytes : List ℕ) (at : ℕ). numberAt bytes at 4) (w .whole) (sym (w .start)) ∙ number-first (w .pre)
+    (slotBytes (slotAt (t .slots) i) ++ w .rest) 4 ∙ tag-back (slotAt (t .slots) i) (w .rest)))
     (tag-most (slotAt (t .slots) i .state))
 
 same-table : {f f′ n n′ : ℕ} {ss ss′ : List Slot} → f ≡ f′ → n ≡ n′ → ss ≡ ss′ → tableOf f n ss ≡ tableOf f′ n′ ss′
@@ -123,6 +126,7 @@ pub read-back : (t : Table) → TableFits t → (tableIn (bytesOf t) ≡ t) × I
 unfolding tableIn
 read-back t f = (
   same-table (first-back t (f .first)) (next-back t (f .next))
-      (sym (slots-are (t .slots) (λ i. slotIn (bytesOf t) (slotStart i)) (f .size) (λ i l. sym (slot-there t i (stands t i (omega (arith, f .size))) (f .each i l))))),
+      (sym (slots-are (t .slots) (λ i. slotIn (bytesOf t) (slotStart i)) (f .size)
+      (λ i l. sym (slot-there t i (stands t i (omega (arith, f .size))) (f .each i l))))),
   record { size = length-table t (f .size); tags = λ i l. tag-there t i (stands t i (omega (arith, f .size))) },
 )

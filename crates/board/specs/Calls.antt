@@ -17,7 +17,8 @@ use Rattle.rules.specs.Table.{Table}
 use Rattle.rules.specs.Create.{Change}
 use Rattle.rules.specs.Ask.{askWord}
 use Rattle.rules.specs.Refusals.{Case, case, First, WrongSize}
-use Rattle.rules.specs.Calls.{plainNumber, Opening, Opens, createNumber, patchNumber, hardOrSoft, Creation, Creates, writeNumber, sentSet, Writing, Writes, Completion, Completes, askNumber, Asks, countNumber, counted, Counts}
+use Rattle.rules.specs.Calls.{plainNumber, Opening, Opens, createNumber, patchNumber, hardOrSoft, Creation, Creates, writeNumber, sentSet, Writing, Writes}
+use Rattle.rules.specs.Calls.{Completion, Completes, askNumber, Asks, countNumber, counted, Counts}
 use Rattle.board.specs.Layout.{tableBytes, IsTable, tableIn, bytesOf}
 
 -- the table's bytes afterwards: a granted call writes the whole table, a refused one changes no byte of it
@@ -90,7 +91,8 @@ writeNone table image undo handed k = record { refusal = k; set = 0; table = tab
 
 pub record WriteCall (table image undo handed : List ℕ) (block : ℕ) (e : WriteEnd) : Type 0 where
   pub is-table : IsTable table → (o : Writing) × Writes (tableIn table) image undo handed block o × (e ≡ writeEnd table o)
-  pub no-table : (IsTable table → ⊥) → First (noTableCases table (WrongSize imageBytes image ⊎ (WrongSize undoBytes undo ⊎ WrongSize blockBytes handed))) (e .refusal)
+  pub no-table : (IsTable table → ⊥)
+      → First (noTableCases table (WrongSize imageBytes image ⊎ (WrongSize undoBytes undo ⊎ WrongSize blockBytes handed))) (e .refusal)
       × (e ≡ writeNone table image undo handed (e .refusal))
 
 -- COMPLETE

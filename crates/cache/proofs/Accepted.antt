@@ -62,7 +62,8 @@ module _ (t : Table) (image undo : List ℕ) (c : Change) where
 
   module _ (p : Past5) where
     past5 : {k : ℕ} {rest : List Case} → First rest k
-        → First (case 1 (WrongSize imageBytes image ⊎ WrongSize undoBytes undo) ∷ case 2 (Unsound t) ∷ case 3 (NoBlock (c .block)) ∷ case 4 (WrongLength c) ∷ case 5 (PastEnd c) ∷ rest) k
+        → First (case 1 (WrongSize imageBytes image ⊎ WrongSize undoBytes undo) ∷ case 2 (Unsound t) ∷ case 3 (NoBlock (c .block)) ∷ case 4
+        (WrongLength c) ∷ case 5 (PastEnd c) ∷ rest) k
     past5 f =
         passes (sizes (p .image-whole) (p .undo-whole))
         (passes (λ n. n (p .sound))
@@ -119,10 +120,12 @@ module _ (t : Table) (image undo : List ℕ) (c : Change) where
       room-for h (HoldOf.soft {r = q} w free) n = n .1 q (free .within) (free .holds)
 
       -- the table and the buffers are what the code made
-      pub create-granted : (h : Hold) → HoldOf (t .slots) (c .block) h → (t′ : Table) (image′ undo′ : List ℕ) → t′ ≡ accepted t c j h → image′ ≡ changed image c → undo′ ≡ kept undo image c h
+      pub create-granted : (h : Hold) → HoldOf (t .slots) (c .block) h → (t′ : Table) (image′ undo′ : List ℕ) → t′ ≡ accepted t c j h
+          → image′ ≡ changed image c → undo′ ≡ kept undo image c h
           → Creates t image undo c (record { answer = create.Granted (t .next) h; table = t′; image = image′; undo = undo′ })
       create-granted h held t′ image′ undo′ p q s =
-          subst₃ (λ (x : Table) (y z : List ℕ). Creates t image undo c (record { answer = create.Granted (t .next) h; table = x; image = y; undo = z })) (sym p) (sym q) (sym s)
+          subst₃ (λ (x : Table) (y z : List ℕ). Creates t image undo c (record { answer = create.Granted (t .next) h; table = x; image = y; undo = z }))
+          (sym p) (sym q) (sym s)
           (grants (createGranted t image undo c j h) (late (passes (λ m. m j (low .within) (low .holds)) (passes (room-for h held) none-holds))) refl
           (record { slot = j; hold = h; lowest = low; hard-or-soft = held; number = refl; says = refl; whole = refl }))
 

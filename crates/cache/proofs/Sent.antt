@@ -74,5 +74,6 @@ module _ (t : Table) (image undo block : List ℕ) (b : ℕ) where
     pub write-granted : (s : ℕ) → (s ≡ 0 → ⊥) → Largest (t .slots) b s → (t′ : Table) (block′ : List ℕ) → t′ ≡ sent t s → block′ ≡ handedOut t b s image undo
         → Writes t image undo block b (record { answer = write.Granted s; table = t′; image = image; undo = undo; block = block′ })
     write-granted s d g t′ block′ p q =
-        subst₂ (λ (x : Table) (y : List ℕ). Writes t image undo block b (record { answer = write.Granted s; table = x; image = image; undo = undo; block = y })) (sym p) (sym q)
+        subst₂ (λ (x : Table) (y : List ℕ). Writes t image undo block b
+        (record { answer = write.Granted s; table = x; image = image; undo = undo; block = y })) (sym p) (sym q)
         (grants (writeGranted t image undo b s) (late (passes (λ e. d (e .1 s (g .goes))) none-holds)) refl (record { largest = g; whole = refl }))

@@ -30,7 +30,8 @@ sends-one t image undo b o p x y =
     x .whole ∙ ap (writeGranted t image undo b) (largest-one (sentSet (o .answer)) (sentSet (p .answer)) (x .largest) (y .largest)) ∙ sym (y .whole)
 
 -- the number of a waiting patch is not that of one in flight
-apart : (t : Table) (n i j : ℕ) → InSlot t n i → InSlot t n j → isWaiting (slotAt (t .slots) i .state) ≡ true → isInFlight (slotAt (t .slots) j .state) ≡ true → Sound t → ⊥
+apart : (t : Table) (n i j : ℕ) → InSlot t n i → InSlot t n j → isWaiting (slotAt (t .slots) i .state) ≡ true
+    → isInFlight (slotAt (t .slots) j .state) ≡ true → Sound t → ⊥
 apart t n i j p q w f s =
     let e : i ≡ j = s .numbers-differ i j (p .0) (q .0) (p .1) (q .1) (p .2 ∙ sym (q .2)) in
     not-both (slotAt (t .slots) i .state) w (subst (λ (k : ℕ). isInFlight (slotAt (t .slots) k .state) ≡ true) (sym e) f)

@@ -19,7 +19,8 @@ module _ {O : Type 0} {cases : List Case} {number : O → ℕ} {refused : ℕ �
   grants o f e g = record { first = subst (First cases) (sym e) f; refusal = λ n. absurd (n e); grant = λ z. g }
 
   -- any two outcomes are equal
-  pub outcome-one : (First cases 0 → (o p : O) → Granted o → Granted p → o ≡ p) → (o p : O) → Outcome cases number refused Granted o → Outcome cases number refused Granted p → o ≡ p
+  pub outcome-one : (First cases 0 → (o p : O) → Granted o → Granted p → o ≡ p) → (o p : O) → Outcome cases number refused Granted o
+      → Outcome cases number refused Granted p → o ≡ p
   outcome-one same o p a b = go (ℕ-discrete (number o) 0)
     where
       e : number o ≡ number p

@@ -31,7 +31,8 @@ touching-apart o l m e = let w = shares-a-byte o l (o + l) m e in omega (arith, 
 abbrev naming : ℕ → Change → Change
 naming n c = record { block = c .block; offset = c .offset; bytes = c .bytes; named = n ∷ c .named }
 
-same-befores : (ss : List Slot) (c : Change) (n : ℕ) → ((i : ℕ) → i < slots → used ss i ≡ true → eqb (slotAt ss i .number) n ≡ true → isIn (slotAt ss i .number) (c .named) ≡ true)
+same-befores : (ss : List Slot) (c : Change) (n : ℕ)
+    → ((i : ℕ) → i < slots → used ss i ≡ true → eqb (slotAt ss i .number) n ≡ true → isIn (slotAt ss i .number) (c .named) ≡ true)
     → befores ss (naming n c) ≡ befores ss c
 unfolding befores isIn
 same-befores ss c n f =
@@ -42,7 +43,8 @@ same-befores ss c n f =
     absorbed true b g = sym (g refl)
     absorbed false b g = refl
 
-    same : (i : ℕ) → i < slots → (u : Bool) → used ss i ≡ u → (u && (eqb (slotAt ss i .number) n || isIn (slotAt ss i .number) (c .named))) ≡ (u && isIn (slotAt ss i .number) (c .named))
+    same : (i : ℕ) → i < slots → (u : Bool) → used ss i ≡ u
+        → (u && (eqb (slotAt ss i .number) n || isIn (slotAt ss i .number) (c .named))) ≡ (u && isIn (slotAt ss i .number) (c .named))
     same i l true e = absorbed (eqb (slotAt ss i .number) n) (isIn (slotAt ss i .number) (c .named)) (f i l e)
     same i l false e = refl
 
@@ -61,7 +63,8 @@ module _ (ss : List Slot) (left : ℕ → Bool) (undo : List ℕ) where
   length-back-number n zero block = refl
   length-back-number n (suc i) block = go (left i && eqb (slotAt ss i .number) n) ∙ length-back-number n i block
     where
-      go : (b : Bool) → length (cond b (takenBack ss undo i (backNumber ss left undo n i block)) (backNumber ss left undo n i block)) ≡ length (backNumber ss left undo n i block)
+      go : (b : Bool) → length (cond b (takenBack ss undo i (backNumber ss left undo n i block)) (backNumber ss left undo n i block)) ≡ length
+          (backNumber ss left undo n i block)
       go true = length-splice (backNumber ss left undo n i block) _ _
       go false = refl
 

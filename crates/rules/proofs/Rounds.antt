@@ -41,7 +41,8 @@ module _ (ss : List Slot) (hard : ℕ) where
 
   pub round-lt : (s : ℕ) → round ss hard s < 2 ^ 64
   round-lt s =
-      ⊎-elim (λ e. rw (hard-struck s e) (omega arith)) (λ e. rw (none-struck s e) (set-lt (λ i. has s i && not (strikes ss s i)))) (true-or-false (strikesHard s))
+      ⊎-elim (λ e. rw (hard-struck s e) (omega arith)) (λ e. rw (none-struck s e) (set-lt (λ i. has s i && not (strikes ss s i))))
+      (true-or-false (strikesHard s))
 
   pub stays-round : (s i : ℕ) → i < slots → Stays s i → has (round ss hard s) i ≡ true
   stays-round s i l z =

@@ -18,7 +18,8 @@ use Rattle.rules.specs.Calls.{createGranted, writeGranted, completeGrant
 use Rattle.rules.specs.Rows.{Radio, Runs, rowsP1toP10}
 use Rattle.rules.proofs.StaysSound.{opened-sound}
 use Rattle.rules.proofs.Computed.{allIssued, lowest-free, softTest, hard-tested, held-back, room-free}
-use Rattle.rules.proofs.Steps.{Good, Made, Went, Done, Stayed, afterCreate, afterWrite, afterComplete, inBounds, create-row, write-flies, write-none, write-row, complete-row}
+use Rattle.rules.proofs.Steps.{Good, Made, Went, Done, Stayed, afterCreate, afterWrite, afterComplete, inBounds, create-row, write-flies, write-none}
+use Rattle.rules.proofs.Steps.{write-row, complete-row}
 
 abbrev lent : List ℕ
 lent = replicate blockBytes 9

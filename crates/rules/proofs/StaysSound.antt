@@ -146,7 +146,8 @@ remaining-like ss b s =
 
 pub completed-sound : (t : Table) (b : ℕ) → Sound t → Sound (completed t b)
 unfolding completed
-completed-sound t b s = keeps-sound t s ss (λ i l. fate i (finished (t .slots) b i l)) (λ i k l m u h. still i k l m u h (finished (t .slots) b i l) (finished (t .slots) b k m))
+completed-sound t b s = keeps-sound t s ss (λ i l. fate i (finished (t .slots) b i l))
+    (λ i k l m u h. still i k l m u h (finished (t .slots) b i l) (finished (t .slots) b k m))
   where
     ss : List Slot
     ss = completedSlots (t .slots) b
@@ -208,12 +209,15 @@ module _ (t : Table) (s : Sound t) (ss : List Slot) (j : ℕ) (p : Slot) (jl : j
     first-most = s .first-most;
     next-least = omega (arith, s .next-least);
     next-most = omega (arith, fit .last);
-    number-least = λ i l. each (λ i n. isUsed (n .state) ≡ true → t .first ≤ n .number) i l (λ u. omega (arith, fit .number, s .next-least)) (λ d u. s .number-least i l u);
-    number-most = λ i l. each (λ i n. isUsed (n .state) ≡ true → n .number < t .next + 1) i l (λ u. omega (arith, fit .number)) (λ d u. omega (arith, s .number-most i l u));
+    number-least = λ i l. each (λ i n. isUsed (n .state) ≡ true → t .first ≤ n .number) i l (λ u. omega (arith, fit .number, s .next-least))
+        (λ d u. s .number-least i l u);
+    number-most = λ i l. each (λ i n. isUsed (n .state) ≡ true → n .number < t .next + 1) i l (λ u. omega (arith, fit .number))
+        (λ d u. omega (arith, s .number-most i l u));
     numbers-differ = λ i k l m.
         each (λ i n. isUsed (n .state) ≡ true → used ss k ≡ true → n .number ≡ slotAt ss k .number → i ≡ k) i l
         (λ u. each (λ k n. isUsed (n .state) ≡ true → p .number ≡ n .number → j ≡ k) k m (λ v e. refl) (λ d v e. absurd (new-number k m v (sym e))))
-        (λ d u. each (λ k n. isUsed (n .state) ≡ true → slotAt (t .slots) i .number ≡ n .number → i ≡ k) k m (λ v e. absurd (new-number i l u e)) (λ c v e. s .numbers-differ i k l m u v e));
+        (λ d u. each (λ k n. isUsed (n .state) ≡ true → slotAt (t .slots) i .number ≡ n .number → i ≡ k) k m (λ v e. absurd (new-number i l u e))
+        (λ c v e. s .numbers-differ i k l m u v e));
     block-most = λ i l. each (λ i n. isUsed (n .state) ≡ true → n .block < blocks) i l (λ u. fit .block) (λ d u. s .block-most i l u);
     len-least = λ i l. each (λ i n. isUsed (n .state) ≡ true → 1 ≤ n .len) i l (λ u. fit .len-least) (λ d u. s .len-least i l u);
     len-most = λ i l. each (λ i n. isUsed (n .state) ≡ true → n .len ≤ mostBytes) i l (λ u. fit .len-most) (λ d u. s .len-most i l u);

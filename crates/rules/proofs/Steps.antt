@@ -21,7 +21,8 @@ use Rattle.rules.specs.Create.{Change, Lowest, FreeSlot, HoldOf, changed
 use Rattle.rules.specs.Write.{Largest}
 use Rattle.rules.specs.Rounds.{round, rounds}
 use Rattle.rules.specs.Refusals.{NoRoom, Flies}
-use Rattle.rules.specs.Calls.{Opens, openGranted, Creation, Creates, createGranted, Writing, Writes, writeGranted, writeRefused, Completion, Completes, completeGranted}
+use Rattle.rules.specs.Calls.{Opens, openGranted, Creation, Creates, createGranted, Writing, Writes, writeGranted, writeRefused, Completion, Completes}
+use Rattle.rules.specs.Calls.{completeGranted}
 use Rattle.rules.specs.Rows.{Radio}
 use Rattle.rules.proofs.Cases.{holds, passes, none-holds}
 use Rattle.rules.proofs.Outcomes.{refuses, grants}
@@ -47,10 +48,12 @@ afterComplete r o = record { table = o .table; image = r .image; undo = r .undo 
 
 -- a granted call on what a radio has: that it is one, and that table and buffers are good after it
 abbrev pub Made : Radio → Change → ℕ → Hold → Type 0
-Made r c j h = Creates (r .table) (r .image) (r .undo) c (createGranted (r .table) (r .image) (r .undo) c j h) × Good (afterCreate (createGranted (r .table) (r .image) (r .undo) c j h))
+Made r c j h = Creates (r .table) (r .image) (r .undo) c (createGranted (r .table) (r .image) (r .undo) c j h) × Good
+    (afterCreate (createGranted (r .table) (r .image) (r .undo) c j h))
 
 abbrev pub Went : Radio → List ℕ → ℕ → ℕ → Type 0
-Went r lent b s = Writes (r .table) (r .image) (r .undo) lent b (writeGranted (r .table) (r .image) (r .undo) b s) × Good (afterWrite (writeGranted (r .table) (r .image) (r .undo) b s))
+Went r lent b s = Writes (r .table) (r .image) (r .undo) lent b (writeGranted (r .table) (r .image) (r .undo) b s) × Good
+    (afterWrite (writeGranted (r .table) (r .image) (r .undo) b s))
 
 abbrev pub Done : Radio → ℕ → Type 0
 Done r b = Completes (r .table) b (completeGranted (r .table) b) × Good (afterComplete r (completeGranted (r .table) b))
@@ -68,7 +71,10 @@ open-row n d l = grants (openGranted n) (passes (⊎-elim d (λ m. omega arith))
 -- block, length, end and numbers of the change are within their bounds
 unfoldable pub inBounds : Table → Change → Bool
 inBounds t c =
-    ltb (c .block) blocks && (leb 1 (length (c .bytes)) && (leb (length (c .bytes)) mostBytes && (leb (c .offset + length (c .bytes)) blockBytes && (leb (length (c .named)) mostNamed && (allIssued t (c .named) && leb (t .next) lastNumber)))))
+    ltb (c .block) blocks &&
+    (leb 1 (length (c .bytes)) &&
+    (leb (length (c .bytes)) mostBytes &&
+    (leb (c .offset + length (c .bytes)) blockBytes && (leb (length (c .named)) mostNamed && (allIssued t (c .named) && leb (t .next) lastNumber)))))
 
 room-for : (ss : List Slot) (c : Change) (h : Hold) → HoldOf ss (c .block) h → NoRoom ss c → ⊥
 room-for ss c h (HoldOf.hard w) n = n .0 w
@@ -111,11 +117,13 @@ module _ (r : Radio) (g : Good r) where
       refl
       (record { slot = j; hold = h; lowest = low; hard-or-soft = held; number = refl; says = refl; whole = refl })
 
-  good-created : (c : Change) (o : Creation) → Creates (r .table) (r .image) (r .undo) c o → length (o .image) ≡ length (r .image) → length (o .undo) ≡ length (r .undo) → Good (afterCreate o)
+  good-created : (c : Change) (o : Creation) → Creates (r .table) (r .image) (r .undo) c o → length (o .image) ≡ length (r .image)
+      → length (o .undo) ≡ length (r .undo) → Good (afterCreate o)
   good-created c o p i u = record { sound = create-sound (r .table) (r .image) (r .undo) c o (g .sound) p; image-whole = i ∙ g .image-whole; undo-whole = u ∙ g .undo-whole }
 
   -- a granted create, and what it leaves
-  pub create-row : (c : Change) (j : ℕ) (h : Hold) → inBounds (r .table) c ≡ true → Lowest slots (FreeSlot (r .table .slots)) j → HoldOf (r .table .slots) (c .block) h
+  pub create-row : (c : Change) (j : ℕ) (h : Hold) → inBounds (r .table) c ≡ true → Lowest slots (FreeSlot (r .table .slots)) j
+      → HoldOf (r .table .slots) (c .block) h
       → Made r c j h
   unfolding changed
   create-row c j h e low held =

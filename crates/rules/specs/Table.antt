@@ -67,7 +67,8 @@ pub record Sound (t : Table) : Type 0 where
   -- numbers in use are at least first, below next and all different
   pub number-least : (i : ℕ) → i < slots → used (t .slots) i ≡ true → t .first ≤ slotAt (t .slots) i .number
   pub number-most : (i : ℕ) → i < slots → used (t .slots) i ≡ true → slotAt (t .slots) i .number < t .next
-  pub numbers-differ : (i j : ℕ) → i < slots → j < slots → used (t .slots) i ≡ true → used (t .slots) j ≡ true → slotAt (t .slots) i .number ≡ slotAt (t .slots) j .number → i ≡ j
+  pub numbers-differ : (i j : ℕ) → i < slots → j < slots → used (t .slots) i ≡ true → used (t .slots) j ≡ true
+      → slotAt (t .slots) i .number ≡ slotAt (t .slots) j .number → i ≡ j
   -- blocks are at most 63
   pub block-most : (i : ℕ) → i < slots → used (t .slots) i ≡ true → slotAt (t .slots) i .block < blocks
   -- lengths are 1 to 64 and offset + length is at most 256

@@ -21,7 +21,8 @@ abbrev passes : List Slot → Change → ℕ → Bool
 passes ss change k = follows (slotAt ss k) change
 
 abbrev Inv-loop : tie.InvT-loop
-Inv-loop block offset bytes numbers slots set₀ i₀ set i = (i ≤ 64) × (set ≡ setBelow (passes slots (record { block = block; offset = offset; bytes = bytes; named = numbers })) i)
+Inv-loop block offset bytes numbers slots set₀ i₀ set i = (i ≤ 64) ×
+    (set ≡ setBelow (passes slots (record { block = block; offset = offset; bytes = bytes; named = numbers })) i)
 
 abbrev μ-loop : tie.MeasureT-loop
 μ-loop block offset bytes numbers slots set₀ i₀ set i = 64 - i
@@ -51,8 +52,11 @@ loop-again : tie.Need-loop-again Inv-loop μ-loop
 loop-again c =
     let at = c .before .before .before .before in
     let a = at .before .before .before .args in
-    let p = passes (a .t1) (record { block = a .block; offset = a .offset; bytes = now (a .bytes); named = now (a .numbers) }) in
-    (omega arith, c .with-if .ensures ∙ with-if-below p (at .loop .i) _ _ (at .loop .inv .1) (c .before .before .before .loop-test .taken) (c .before .follows .ensures))
+    let p = passes (a .t1) (record { block = a .block; offset = a .offset; bytes = now (a .bytes); named = now (a .numbers) }) in (
+      omega arith,
+      c .with-if .ensures ∙ with-if-below p (at .loop .i) _ _ (at .loop .inv .1) (c .before .before .before .loop-test .taken)
+          (c .before .follows .ensures),
+    )
 
 returns : tie.Need-returns Inv-loop μ-loop
 unfolding befores

@@ -60,7 +60,8 @@ returns-4 c =
 returns-5 : tie.Need-returns-5
 returns-5 c =
     let r = c .before .before .before in
-    ask-here (r .ask .result) (ask.Refused (c .before .answer .given .0 .0)) (table-here (r .before .before)) (seen-here (r .before)) (r .ask .ensures) (c .before .answer .given .1)
+    ask-here (r .ask .result) (ask.Refused (c .before .answer .given .0 .0)) (table-here (r .before .before)) (seen-here (r .before)) (r .ask .ensures)
+    (c .before .answer .given .1)
 
 pub board-ask-spec : {M : Type 1} → statement M
 board-ask-spec =

@@ -57,7 +57,8 @@ same-length-3 c = search needs
 returns-3 : tie.Need-returns-3
 returns-3 c =
     let r = c .before .before .before in
-    complete-refused-here (completion (r .complete .result)) (table-here (r .before .before .before)) (seen-here (r .before)) (r .complete .ensures) (c .before .answer .given .0 .0) (c .before .answer .given .1)
+    complete-refused-here (completion (r .complete .result)) (table-here (r .before .before .before)) (seen-here (r .before)) (r .complete .ensures)
+    (c .before .answer .given .0 .0) (c .before .answer .given .1)
 
 pub board-complete-spec : {M : Type 1} → statement M
 board-complete-spec =

@@ -39,12 +39,14 @@ enum-known-answer-2 c = search needs
 returns-2 : tie.Need-returns-2
 returns-2 c =
     let r = c .before .before .before in
-    count-here (r .count .result) (count.Granted (c .before .answer .given .0 .0)) (table-here (r .before .before)) (seen-here (r .before)) (r .count .ensures) (c .before .answer .given .1)
+    count-here (r .count .result) (count.Granted (c .before .answer .given .0 .0)) (table-here (r .before .before)) (seen-here (r .before))
+    (r .count .ensures) (c .before .answer .given .1)
 
 returns-3 : tie.Need-returns-3
 returns-3 c =
     let r = c .before .before .before in
-    count-here (r .count .result) (count.Refused (c .before .answer2 .given .0 .0)) (table-here (r .before .before)) (seen-here (r .before)) (r .count .ensures) (c .before .answer2 .given .1)
+    count-here (r .count .result) (count.Refused (c .before .answer2 .given .0 .0)) (table-here (r .before .before)) (seen-here (r .before))
+    (r .count .ensures) (c .before .answer2 .given .1)
 
 pub board-count-spec : {M : Type 1} → statement M
 board-count-spec =

@@ -23,7 +23,8 @@ same-length c = search needs
 table-here : (c : tie.Else1) → IsTable (now (c .before .before .before .before .before .before .before .before .args .table))
 table-here c = yes-not (c .before .is-table .result) (c .before .is-table .ensures) (c .if1 .left)
 
-seen-here : (c : tie.After-table-in) → seen (c .table-in .result) ≡ tableIn (now (c .before .before .before .before .before .before .before .before .before .before .args .table))
+seen-here : (c : tie.After-table-in)
+    → seen (c .table-in .result) ≡ tableIn (now (c .before .before .before .before .before .before .before .before .before .before .args .table))
 seen-here c = c .table-in .ensures ∙ read-whole _ (table-here (c .before .before) .size)
 
 none-here : (c : tie.Then1) → IsTable (now (c .before .before .before .before .before .before .before .before .args .table)) → ⊥
@@ -46,7 +47,8 @@ same-length-3 : tie.Need-same-length-3
 same-length-3 c = search needs
 
 returns-3 : tie.Need-returns-3
-returns-3 c = create-none _ _ _ _ 2 (none-here (c .before .before)) (passes (⊎-elim (λ n. n (c .before .if2 .left)) (λ n. n (c .if3 .left))) (holds (none-here (c .before .before))))
+returns-3 c = create-none _ _ _ _ 2 (none-here (c .before .before))
+    (passes (⊎-elim (λ n. n (c .before .if2 .left)) (λ n. n (c .if3 .left))) (holds (none-here (c .before .before))))
 
 table-in-requires : tie.Need-table-in-requires
 table-in-requires c κs = search needs
@@ -62,7 +64,8 @@ store-requires c κs = search needs
 
 hold-number-requires : tie.Need-hold-number-requires
 hold-number-requires c κs =
-    hold-fits (c .before .before .before .before .before .before .before .before .before .before .before .before .create .ensures) (c .before .before .before .before .before .before .answer .given .1)
+    hold-fits (c .before .before .before .before .before .before .before .before .before .before .before .before .create .ensures)
+    (c .before .before .before .before .before .before .answer .given .1)
 
 enum-known-answer-2 : tie.Need-enum-known-answer-2
 enum-known-answer-2 c = search needs
@@ -97,7 +100,8 @@ returns-5 : tie.Need-returns-5
 returns-5 c =
     let r = c .before .before .before .before .before .before .before in
     let g = c .before .answer2 .given in
-    create-refused-here (made r) (table-here (r .before .before .before .before .before)) (seen-here (r .before .before .before)) (r .create .ensures) (g .0 .0) (g .1)
+    create-refused-here (made r) (table-here (r .before .before .before .before .before)) (seen-here (r .before .before .before)) (r .create .ensures)
+    (g .0 .0) (g .1)
 
 pub board-create-spec : {M : Type 1} → statement M
 board-create-spec =

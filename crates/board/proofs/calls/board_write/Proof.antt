@@ -23,7 +23,8 @@ same-length c = search needs
 table-here : (c : tie.Else1) → IsTable (now (c .before .before .before .before .before .before .before .args .table))
 table-here c = yes-not (c .before .is-table .result) (c .before .is-table .ensures) (c .if1 .left)
 
-seen-here : (c : tie.After-table-in) → seen (c .table-in .result) ≡ tableIn (now (c .before .before .before .before .before .before .before .before .before .args .table))
+seen-here : (c : tie.After-table-in)
+    → seen (c .table-in .result) ≡ tableIn (now (c .before .before .before .before .before .before .before .before .before .args .table))
 seen-here c = c .table-in .ensures ∙ read-whole _ (table-here (c .before .before) .size)
 
 none-here : (c : tie.Then1) → IsTable (now (c .before .before .before .before .before .before .before .args .table)) → ⊥
@@ -31,7 +32,8 @@ none-here c = no-not (c .before .is-table .result) (c .before .is-table .ensures
 
 -- what the call has made
 abbrev made : tie.After-write → Writing
-made c = writing (c .write .result) (now (c .before .before .before .before .before .before .before .before .before .before .before .args .image)) (now (c .before .before .before .before .before .before .before .before .before .before .before .args .undo)) (c .write .last .1 .1 .1 .0)
+made c = writing (c .write .result) (now (c .before .before .before .before .before .before .before .before .before .before .before .args .image))
+    (now (c .before .before .before .before .before .before .before .before .before .before .before .args .undo)) (c .write .last .1 .1 .1 .0)
 
 returns : tie.Need-returns
 returns c = write-none _ _ _ _ _ 1 (none-here (c .before)) (holds (inl (c .if2 .taken)))
@@ -54,7 +56,8 @@ same-length-4 c = search needs
 returns-4 : tie.Need-returns-4
 returns-4 c =
     let d = none-here (c .before .before .before) in
-    write-none _ _ _ _ _ 2 d (passes (⊎-elim (λ n. n (c .before .before .if2 .left)) (⊎-elim (λ n. n (c .before .if3 .left)) (λ n. n (c .if4 .left)))) (holds d))
+    write-none _ _ _ _ _ 2 d
+    (passes (⊎-elim (λ n. n (c .before .before .if2 .left)) (⊎-elim (λ n. n (c .before .if3 .left)) (λ n. n (c .if4 .left)))) (holds d))
 
 table-in-requires : tie.Need-table-in-requires
 table-in-requires c κs = search needs

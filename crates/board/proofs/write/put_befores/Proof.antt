@@ -34,7 +34,8 @@ returns c =
     let p2 = c .before .before in
     let p1 = p2 .before .before .before .before in
     let a = p1 .before .before .before .args in
-    laid 4 (inBytes 4 (a .x / 4294967296)) (record { is = p1 .put .ensures }) (p2 .put2 .ensures) (length-four (a .x % 4294967296)) .is ∙ ap (λ (ys : List ℕ). splice (now (a .bytes)) (a .at) ys) (bytes-8 (a .x))
+    laid 4 (inBytes 4 (a .x / 4294967296)) (record { is = p1 .put .ensures }) (p2 .put2 .ensures) (length-four (a .x % 4294967296)) .is
+    ∙ ap (λ (ys : List ℕ). splice (now (a .bytes)) (a .at) ys) (bytes-8 (a .x))
 
 pub put-befores-spec : {M : Type 1} → statement M
 put-befores-spec =

@@ -28,11 +28,13 @@ size : (c : tie.Start Inv-loop μ-loop) → length (c .args .t2 .slots) ≡ 64
 size c = simp length-map at (c .good .1 .0 .1 .1 .1 .1 .0 .1 .0 .1)
 
 -- the bytes in the loop are as many as came
-same-here : (c : tie.At-loop Inv-loop μ-loop) → length (c .loop .bytes) ≡ length (now (c .before .before .before .before .before .before .before .before .before .before .before .args .bytes))
+same-here : (c : tie.At-loop Inv-loop μ-loop)
+    → length (c .loop .bytes) ≡ length (now (c .before .before .before .before .before .before .before .before .before .before .before .args .bytes))
 same-here c =
     let p2 = c .before .before .before in
     let p1 = p2 .before .before .before .before in
-    ap length (c .loop .inv .1 .is) ∙ length-splice _ _ _ ∙ ap length (p2 .put2 .ensures) ∙ length-splice _ _ _ ∙ ap length (p1 .put .ensures) ∙ length-splice _ _ _
+    ap length (c .loop .inv .1 .is) ∙ length-splice _ _ _ ∙ ap length (p2 .put2 .ensures) ∙ length-splice _ _ _ ∙ ap length (p1 .put .ensures)
+    ∙ length-splice _ _ _
 
 returns : tie.Need-returns Inv-loop μ-loop
 returns c = sym (stored-other _ _ (c .if1 .taken))
@@ -60,7 +62,8 @@ element-copy-out-put-slot : tie.Need-element-copy-out-put-slot Inv-loop μ-loop
 element-copy-out-put-slot c = search needs
 
 put-slot-requires : tie.Need-put-slot-requires Inv-loop μ-loop
-put-slot-requires c κs = let at = c .before .before .before in omega (arith, same-here at, at .before .before .before .before .before .before .before .before .before .if1 .left)
+put-slot-requires c κs = let at = c .before .before .before in omega
+    (arith, same-here at, at .before .before .before .before .before .before .before .before .before .if1 .left)
 
 add-i : tie.Need-add-i Inv-loop μ-loop
 add-i c = search needs
@@ -78,7 +81,8 @@ loop-again c =
     let more : i < length slots = omega (arith, size start, c .before .before .before .before .before .loop-test .taken) in (
       omega (arith, c .before .before .before .before .before .loop-test .taken),
       rw (slots-more slots i more)
-          (laid (32 * i) (slotBytes (slotAt slots i)) (at .loop .inv .1) (c .before .before .put-slot .ensures) (sym (length-slots (take i slots) ∙ ap (λ (n : ℕ). 32 * n) (length-take-le i slots few)))),
+          (laid (32 * i) (slotBytes (slotAt slots i)) (at .loop .inv .1) (c .before .before .put-slot .ensures)
+          (sym (length-slots (take i slots) ∙ ap (λ (n : ℕ). 32 * n) (length-take-le i slots few)))),
     )
 
 same-length : tie.Need-same-length Inv-loop μ-loop
@@ -92,7 +96,8 @@ returns-2 c =
     let p1 = p2 .before .before .before .before in
     let start = p1 .before .before .before .before in
     let a = start .args in
-    let all : slotsBytes (take (at .loop .i) (a .t2 .slots)) ≡ slotsBytes (a .t2 .slots) = ap slotsBytes (take-all (at .loop .i) (a .t2 .slots) (omega (arith, c .loop-test .left, size start))) in
+    let all : slotsBytes (take (at .loop .i) (a .t2 .slots)) ≡ slotsBytes (a .t2 .slots) = ap slotsBytes
+    (take-all (at .loop .i) (a .t2 .slots) (omega (arith, c .loop-test .left, size start))) in
     let put = at .loop .inv .1 .is ∙ ap (λ (ys : List ℕ). splice (p2 .put2 .last .0) 8 ys) all in
     let whole = laid 8 (slotsBytes (a .t2 .slots)) (laid 4 (inBytes 4 (a .t2 .next)) (record { is = p1 .put .ensures }) (p2 .put2 .ensures) refl) put refl in
     let test = p1 .before .before in

@@ -37,7 +37,9 @@ returns-3 c =
     ask-unissued (seen (a .self)) (a .number) (sound-here (c .before .before .before .before)) (λ i. not-le-of-lt (i .1) (c .if3 .taken))
 
 -- where the number has been found issued
-issued-here : (c : tie.Else3) → Issued (seen (c .before .before .before .before .before .before .before .args .self)) (c .before .before .before .before .before .before .before .args .number)
+issued-here : (c : tie.Else3)
+    → Issued (seen (c .before .before .before .before .before .before .before .args .self))
+    (c .before .before .before .before .before .before .before .args .number)
 issued-here c = (c .before .before .if2 .left, c .if3 .left)
 
 find-requires : tie.Need-find-requires
@@ -67,7 +69,9 @@ enum-told-3 : tie.Need-enum-told-3
 enum-told-3 c = search needs
 
 -- the slot that was found has the number
-in-slot : (c : tie.Else4) → InSlot (seen (c .before .before .before .before .before .before .before .before .before .args .self)) (c .before .before .before .before .before .before .before .before .before .args .number) (c .before .find .result)
+in-slot : (c : tie.Else4)
+    → InSlot (seen (c .before .before .before .before .before .before .before .before .before .args .self))
+    (c .before .before .before .before .before .before .before .before .before .args .number) (c .before .find .result)
 in-slot c = let l : c .before .find .result < 64 = omega arith in let t = c .before .find .ensures .there l in (l, t .0, t .1)
 
 returns-5 : tie.Need-returns-5

@@ -43,10 +43,13 @@ start c = c .before .before .before .before .before .before .before .before .bef
 returns : tie.Need-returns
 returns c =
     let s = start (c .before) in
-    create-refused (seen (s .args .self)) (now (s .args .image)) (now (s .args .undo)) (change s) (c .before .create-refusal .result) (c .if1 .taken) (c .before .create-refusal .ensures)
+    create-refused (seen (s .args .self)) (now (s .args .image)) (now (s .args .undo)) (change s) (c .before .create-refusal .result) (c .if1 .taken)
+    (c .before .create-refusal .ensures)
 
 -- where nothing was refused early
-ready-here : (c : tie.Else1) → CreateReady (seen (start (c .before) .args .self)) (now (start (c .before) .args .image)) (now (start (c .before) .args .undo)) (change (start (c .before)))
+ready-here : (c : tie.Else1)
+    → CreateReady (seen (start (c .before) .args .self)) (now (start (c .before) .args .image)) (now (start (c .before) .args .undo))
+    (change (start (c .before)))
 ready-here c = c .before .create-refusal .ensures .ready (c .if1 .left)
 
 lowest-outside-requires : tie.Need-lowest-outside-requires
@@ -81,7 +84,8 @@ returns-2 : tie.Need-returns-2
 returns-2 c =
     let e = c .before .before in
     let s = start (e .before) in
-    create-no-slot (seen (s .args .self)) (now (s .args .image)) (now (s .args .undo)) (change s) (ready-here e) (lowest-of (c .before) .nowhere (c .if2 .taken))
+    create-no-slot (seen (s .args .self)) (now (s .args .image)) (now (s .args .undo)) (change s) (ready-here e)
+    (lowest-of (c .before) .nowhere (c .if2 .taken))
 
 -- where a slot has been found free
 lowest-here : (c : tie.Else2) → Lowest 64 (FreeSlot (start (c .before .before .before) .args .self .slots)) (c .before .lowest-outside .result)
@@ -108,12 +112,14 @@ returns-3 c =
     let g = f .before in
     let e = g .before .before in
     let s = start (e .before) in
-    create-no-room (seen (s .args .self)) (now (s .args .image)) (now (s .args .undo)) (change s) (ready-here e) (g .before .lowest-outside .result) (lowest-here g)
+    create-no-room (seen (s .args .self)) (now (s .args .image)) (now (s .args .undo)) (change s) (ready-here e) (g .before .lowest-outside .result)
+    (lowest-here g)
     (subst (Means (s .args .self .slots) (s .args .block)) (c .enum-told .given .1)
     (held-means (s .args .self .slots) (judged-here e .1) (f .hold-for .ensures)))
 
 -- where the patch is known to be hard or soft
-held-here : (c : tie.After-hold) → let a = start (c .before .before .before .before .before .before) .args in HoldOf (a .self .slots) (a .block) (c .hold .given .0 .0)
+held-here : (c : tie.After-hold)
+    → let a = start (c .before .before .before .before .before .before) .args in HoldOf (a .self .slots) (a .block) (c .hold .given .0 .0)
 held-here c =
     let e = c .before .before .before .before .before in
     let s = start (e .before) in

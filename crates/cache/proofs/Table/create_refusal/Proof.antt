@@ -6,7 +6,8 @@ use denote.Ref.{now}
 use Rattle.masks.proofs.Decided.{yes-of, no-of, yes-not, no-not}
 use Rattle.rules.specs.Table.{Sound}
 use Rattle.cache.specs.Seen.{seen}
-use Rattle.cache.proofs.Accepted.{create-wrong-size, create-unsound, create-no-block, create-wrong-length, create-past-end, Past5, create-many-named, create-unissued, create-no-number, create-ready}
+use Rattle.cache.proofs.Accepted.{create-wrong-size, create-unsound, create-no-block, create-wrong-length, create-past-end, Past5, create-many-named}
+use Rattle.cache.proofs.Accepted.{create-unissued, create-no-number, create-ready}
 use Rattle.cache.proofs.Table.create_refusal.Statement.{statement}
 use Rattle.cache.proofs.Table.create_refusal.Tie as tie
 
@@ -94,13 +95,15 @@ returns-10 : tie.Need-returns-10
 returns-10 c =
     let e9 = c .before .before in
     let e8 = e9 .before .before in
-    create-no-number _ _ _ _ (past-here (e8 .before)) (e8 .if8 .left) (no-of (e9 .before .unissued .result) (e9 .before .unissued .ensures) (e9 .if9 .left)) (c .if10 .taken)
+    create-no-number _ _ _ _ (past-here (e8 .before)) (e8 .if8 .left) (no-of (e9 .before .unissued .result) (e9 .before .unissued .ensures) (e9 .if9 .left))
+    (c .if10 .taken)
 
 returns-11 : tie.Need-returns-11
 returns-11 c =
     let e9 = c .before .before in
     let e8 = e9 .before .before in
-    create-ready _ _ _ _ (past-here (e8 .before)) (e8 .if8 .left) (no-of (e9 .before .unissued .result) (e9 .before .unissued .ensures) (e9 .if9 .left)) (c .if10 .left)
+    create-ready _ _ _ _ (past-here (e8 .before)) (e8 .if8 .left) (no-of (e9 .before .unissued .result) (e9 .before .unissued .ensures) (e9 .if9 .left))
+    (c .if10 .left)
 
 pub create-refusal-spec : {M : Type 1} → statement M
 create-refusal-spec =

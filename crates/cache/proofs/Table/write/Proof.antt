@@ -31,7 +31,8 @@ start c = c .before .before .before .before .before .before .before
 returns : tie.Need-returns
 returns c =
     let a = start (c .before) .args in
-    write-refused (seen (a .self)) (now (a .image)) (now (a .undo)) (now (a .handed)) (a .block) (c .before .write-refusal .result) (c .if1 .taken) (c .before .write-refusal .ensures)
+    write-refused (seen (a .self)) (now (a .image)) (now (a .undo)) (now (a .handed)) (a .block) (c .before .write-refusal .result) (c .if1 .taken)
+    (c .before .write-refusal .ensures)
 
 -- where nothing was refused early
 ready-here : (c : tie.Else1) → let a = start (c .before) .args in WriteReady (seen (a .self)) (now (a .image)) (now (a .undo)) (now (a .handed)) (a .block)

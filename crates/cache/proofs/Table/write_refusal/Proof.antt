@@ -27,7 +27,8 @@ is-sound-requires c κs = search needs
 returns-4 : tie.Need-returns-4
 returns-4 c =
     let e = c .before .before .before in
-    write-unsound _ _ _ _ _ (e .before .before .if1 .left) (e .before .if2 .left) (e .if3 .left) (no-not (c .before .is-sound .result) (c .before .is-sound .ensures) (c .if4 .taken))
+    write-unsound _ _ _ _ _ (e .before .before .if1 .left) (e .before .if2 .left) (e .if3 .left)
+    (no-not (c .before .is-sound .result) (c .before .is-sound .ensures) (c .if4 .taken))
 
 -- where the table has been found sound
 sound-here : (c : tie.Else4) → Sound (seen (c .before .before .before .before .before .before .before .before .before .args .self))

@@ -98,9 +98,14 @@ loop-again-2 c =
     let l = here .before .before .before .loop-test .taken in
     record {
       most = omega arith;
-      waits = waiting .with-if .ensures ∙ with-if-below (waitsOn (a .t1) (a .block)) (at .loop .i) _ _ (passed .waits) l (on-block _ _ _ _ (here .if1 .left) (waiting .before .is-waiting .ensures));
-      hards = hard .with-if2 .ensures ∙ with-if-below (hardOn (a .t1) (a .block)) (at .loop .i) _ _ (passed .hards) l (on-block _ _ _ _ (here .if1 .left) (hard .before .is-hard .ensures));
-      flies = c .with-if3 .ensures ∙ with-if-below (fliesOn (a .t1) (a .block)) (at .loop .i) _ _ (passed .flies) l (on-block _ _ _ _ (here .if1 .left) (c .before .is-in-flight .ensures));
+      waits = waiting .with-if .ensures
+          ∙ with-if-below (waitsOn (a .t1) (a .block)) (at .loop .i) _ _ (passed .waits) l
+          (on-block _ _ _ _ (here .if1 .left) (waiting .before .is-waiting .ensures));
+      hards = hard .with-if2 .ensures
+          ∙ with-if-below (hardOn (a .t1) (a .block)) (at .loop .i) _ _ (passed .hards) l (on-block _ _ _ _ (here .if1 .left) (hard .before .is-hard .ensures));
+      flies = c .with-if3 .ensures
+          ∙ with-if-below (fliesOn (a .t1) (a .block)) (at .loop .i) _ _ (passed .flies) l
+          (on-block _ _ _ _ (here .if1 .left) (c .before .is-in-flight .ensures));
     }
 
 returns : tie.Need-returns Inv-loop μ-loop

@@ -105,7 +105,8 @@ sound-alone-requires : tie.Need-sound-alone-requires Inv-loop μ-loop
 sound-alone-requires c κs = search needs
 
 -- past the first test the slot is in use
-in-use : (c : tie.Else2 Inv-loop μ-loop) → used (c .before .before .before .before .before .before .before .args .t3) (c .before .before .before .before .loop .i) ≡ true
+in-use : (c : tie.Else2 Inv-loop μ-loop)
+    → used (c .before .before .before .before .before .before .before .args .t3) (c .before .before .before .before .loop .i) ≡ true
 in-use c = sym (c .before .is-used .ensures) ∙ not-false _ (c .if2 .left)
 
 -- a slot of a sound table passes every test
@@ -123,7 +124,8 @@ returns-2 c =
     let test = c .before in
     let at = test .before .before in
     not-sound (c .unsound2 .ensures)
-    (λ s. no-not {P = Alone _ _ _ _} (test .before .sound-alone .result) (test .before .sound-alone .ensures) (test .if3 .taken) (passes at s .alone (in-use at)))
+    (λ s. no-not {P = Alone _ _ _ _} (test .before .sound-alone .result) (test .before .sound-alone .ensures) (test .if3 .taken)
+    (passes at s .alone (in-use at)))
 
 mark-requires : tie.Need-mark-requires Inv-loop μ-loop
 mark-requires c κs = c .before .before .before .before .before .before .before .loop .inv .size

@@ -65,7 +65,8 @@ has-requires c κs = search needs
 
 returns : tie.Need-returns
 returns c =
-    let m = marking (c .before .before .before .args .marks .now) (c .before .before .before .args .n) _ (c .before .with .ensures) (omega (arith, c .before .before .before .pre)) in
+    let m = marking (c .before .before .before .args .marks .now) (c .before .before .before .args .n) _ (c .before .with .ensures)
+    (omega (arith, c .before .before .before .pre)) in
     record { was = c .has .ensures; size = m .size; is = m .is; kept = m .kept }
 
 pub mark-spec : {M : Type 1} → statement M
