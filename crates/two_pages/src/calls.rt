@@ -10,6 +10,7 @@ use rules::WriteAnswer;
 
 fn refused(k: u32) {
     say::field(b"refused ", k);
+    say::reason(k);
 }
 
 fn hold(h: Hold) {
@@ -73,7 +74,8 @@ pub fn create(
     say::label(row);
     say::field(b" create block ", block);
     say::field(b" offset ", offset);
-    say::length(bytes);
+    say::text(b" bytes");
+    say::runs(bytes);
     after(named);
     say::text(b": ");
     created(answer);

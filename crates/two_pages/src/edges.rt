@@ -1,5 +1,6 @@
 // "At the edges": each edge at its exact numbers. A row's word says which edge it is.
 use crate::calls;
+use crate::say;
 use crate::say::Row;
 use cache::Table;
 
@@ -33,6 +34,7 @@ fn many(
 
 // Offset, length and the numbers named.
 pub fn ranges(image: &mut [u8; 16384], undo: &mut [u8; 1024]) {
+    say::heading(b"At the edges: offset, length, and how many numbers are named");
     let bytes = [5u8; 65];
     let mut t = calls::open(Row::Range, 1);
     t = calls::create(t, image, undo, Row::Range, 0, 192, &bytes[..64], &[]);
@@ -71,6 +73,7 @@ fn named(mut t: Table, image: &mut [u8; 16384], undo: &mut [u8; 1024]) {
 
 // Opened at the last number, one create is granted. Above it nothing opens.
 pub fn last_number(image: &mut [u8; 16384], undo: &mut [u8; 1024]) {
+    say::heading(b"At the edges: the last number");
     let mut t = calls::open(Row::Last, 1000000000);
     many(t, image, undo, Row::Last, 0, 2);
     calls::open(Row::Last, 1000000001);
@@ -79,6 +82,7 @@ pub fn last_number(image: &mut [u8; 16384], undo: &mut [u8; 1024]) {
 
 // Sixty-four are all hard, and the sixty-fifth finds no slot.
 pub fn slots(image: &mut [u8; 16384], undo: &mut [u8; 1024]) {
+    say::heading(b"At the edges: sixty-four slots");
     let mut t = calls::open(Row::Slots, 1);
     many(t, image, undo, Row::Slots, 0, 65);
 }
@@ -86,6 +90,7 @@ pub fn slots(image: &mut [u8; 16384], undo: &mut [u8; 1024]) {
 // One waits on block 1 and one on block 2 names it. Sixteen more on block 1 are soft, and the
 // seventeenth finds no room.
 pub fn rooms(image: &mut [u8; 16384], undo: &mut [u8; 1024]) {
+    say::heading(b"At the edges: sixteen rooms");
     let mut t = calls::open(Row::Rooms, 1);
     t = calls::create(t, image, undo, Row::Rooms, 1, 0, &[5], &[]);
     t = calls::create(t, image, undo, Row::Rooms, 2, 0, &[5], &[1]);

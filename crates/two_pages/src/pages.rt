@@ -1,11 +1,12 @@
 // "A session of two pages": rows P1 to P10, each on what the row before left, and the branch
 // directly after P6.
 use crate::calls;
+use crate::say;
 use crate::say::Row;
 use cache::Table;
 
 fn to_p4(image: &mut [u8; 16384], undo: &mut [u8; 1024]) -> Table {
-    let mut t = calls::open(Row::P(0), 1);
+    let mut t = calls::open(Row::Start, 1);
     t = calls::create(t, image, undo, Row::P(1), 1, 0, &[65; 8], &[]);
     t = calls::create(t, image, undo, Row::P(2), 2, 0, &[1; 2], &[1]);
     t = calls::create(t, image, undo, Row::P(3), 2, 2, &[2; 2], &[]);
@@ -39,10 +40,12 @@ fn from_branch(mut t: Table, image: &[u8; 16384], undo: &[u8; 1024]) -> Table {
 // The branch goes on from the table as P6 left it. P7 to P10 make no change, so the working image
 // and the undo area are those that P6 left too.
 pub fn session(image: &mut [u8; 16384], undo: &mut [u8; 1024]) {
+    say::heading(b"A session of two pages: block 1 holds names, block 2 the index");
     let p4 = to_p4(image, undo);
     let p6 = to_p6(p4, image, undo);
-    from_p7(p6, image, undo);
     calls::slot_3(p6, Row::P(6));
+    from_p7(p6, image, undo);
+    say::heading(b"A branch directly after P6: a hard creation turns the waiting soft patch hard");
     let branch = calls::create(p6, image, undo, Row::Branch, 1, 0, &[67], &[]);
     calls::slot_3(branch, Row::Branch);
     from_branch(branch, image, undo);

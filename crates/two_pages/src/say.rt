@@ -3,8 +3,10 @@ ghost use Prim.Native.Nat.{_+_, _≤_, _<_};
 ghost use lib.ListN.{length};
 use libc::STDOUT_FILENO;
 
-// The row of the paper's table that a line belongs to, or its branch, or which of the edges.
+// The row of the paper's table that a line belongs to, or its opening, its branch, or which of the
+// edges.
 pub enum Row {
+    Start,
     P(u32),
     Branch,
     Range,
@@ -28,8 +30,36 @@ pub fn field(words: &[u8], n: u32) {
     number(n);
 }
 
+// A line of its own above a part.
+pub fn heading(words: &[u8]) {
+    text(b"\n");
+    text(words);
+    text(b"\n");
+}
+
+// Why a call was refused, after its number.
+pub fn reason(k: u32) {
+    match k {
+        3 => text(b" (block above 63)"),
+        4 => text(b" (data length 0 or above 64)"),
+        5 => text(b" (offset + length above 256)"),
+        6 => text(b" (more than 8 named numbers)"),
+        7 => text(b" (a named or asked number was never issued)"),
+        8 => text(b" (no number is left)"),
+        9 => text(b" (no free slot)"),
+        10 => text(b" (would be soft, and all 16 rooms are taken)"),
+        11 => text(b" (a patch of the block is in flight)"),
+        12 => text(b" (no patch of the block waits)"),
+        13 => text(b" (some wait, and none may go)"),
+        14 => text(b" (no patch of the block is in flight)"),
+        15 => text(b" (first number 0 or above 1,000,000,000)"),
+        _ => text(b""),
+    }
+}
+
 pub fn label(of: Row) {
     match of {
+        Row::Start => text(b"start"),
         Row::P(n) => field(b"P", n),
         Row::Branch => text(b"branch"),
         Row::Range => text(b"range"),
@@ -42,11 +72,6 @@ pub fn label(of: Row) {
 
 fn place(n: usize) {
     io::print_decimal(STDOUT_FILENO, n as u64);
-}
-
-pub fn length(bytes: &[u8]) {
-    text(b" length ");
-    place(bytes.len());
 }
 
 // A member of a set after a space, or nothing.
