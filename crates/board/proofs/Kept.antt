@@ -24,7 +24,7 @@ use Rattle.rules.specs.Open.{opened}
 use Rattle.rules.specs.Create.{Change, befores, HoldOf, turnedState, turned, patch, acceptedSlots, accepted}
 use Rattle.rules.specs.Write.{sentState, sentSlot, sentSlots, sent}
 use Rattle.rules.specs.Complete.{withoutBefores, landedSlot, landedSlots, landing, completedSlots, completed}
-use Rattle.rules.specs.Refusals.{First, openCases, createCases}
+use Rattle.rules.specs.Refusals.{First, openCases}
 use Rattle.rules.specs.Calls.{plainNumber, createNumber, writeNumber, Opening, Opens, Creation, Creates, Writing, Writes, Completion, Completes, sentSet}
 use Rattle.rules.proofs.Cases.{passed}
 use Rattle.rules.proofs.SlotsBy.{slot-by, length-by}
@@ -214,7 +214,7 @@ module _ (xs : List ℕ) (bytes : Bytes xs) where
       → ReadsBack (o .table)
   create-kept image undo c o p z =
       let g = p .grant z in
-      let v = create-passed (tableIn xs) image undo c (subst (First (createCases (tableIn xs) image undo c)) z (p .first)) in
+      let v = create-passed p z in
       subst (λ (x : Creation). ReadsBack (x .table)) (sym (g .whole))
       (read-back (accepted (tableIn xs) c (g .slot) (g .hold)) (accepted-fits (tableIn xs) (table-fits xs bytes) c (g .slot) (g .hold) v (g .hard-or-soft)))
 

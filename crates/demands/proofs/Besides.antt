@@ -13,7 +13,6 @@ use Rattle.rules.specs.Slots.{isWaiting, isInFlight}
 use Rattle.rules.specs.Table.{Table, slotAt, Issued, InSlot, Committed}
 use Rattle.rules.specs.Create.{isIn}
 use Rattle.rules.specs.Ask.{askWord, Asked}
-use Rattle.rules.specs.Refusals.{First, writeCases}
 use Rattle.rules.specs.Calls.{Writing, Writes, writeNumber, Asks}
 use Rattle.rules.proofs.Granted.{write-passed}
 use Rattle.demands.specs.History.{History, Accepted, Sent}
@@ -57,11 +56,10 @@ module _ (h : History) (g : Good h) where
   alone : (b : ℕ) (lent : List ℕ) (o : Writing) → Writes (h .table) (h .image) (h .undo) lent b o → writeNumber (o .answer) ≡ 0
       → (w : Sent) → List·Memᴰ w (h .inFlight) → w .block ≡ b → ⊥
   alone b lent o p z w m e =
-      let v = write-passed (h .table) (h .image) (h .undo) lent b (subst (First (writeCases (h .table) (h .image) (h .undo) lent b)) z (p .first)) in
       let n = g .some w (mem-left (h .landed) w m) in
       let a = g .sent w (mem-left (h .landed) w m) (n .0) (n .1) in
       let out = sym (g .out (a .0) (a .1)) ∙ ap (λ (x : ℕ). sentIn x (h .inFlight)) (a .2) ∙ noted-sent (n .0) (h .inFlight) w m (n .1) in
-      none-out h g b (v .none-flies) (a .0) (a .1) (a .3 ∙ e) (out-flies (wordOf ss (a .0 .number)) out)
+      none-out h g b (write-passed p z .none-flies) (a .0) (a .1) (a .3 ∙ e) (out-flies (wordOf ss (a .0 .number)) out)
 
   -- ---- what ask says, and the notes
 

@@ -11,7 +11,6 @@ use Rattle.rules.specs.Open.{opened}
 use Rattle.rules.specs.Create.{Change, accepted}
 use Rattle.rules.specs.Write.{sent}
 use Rattle.rules.specs.Complete.{completed}
-use Rattle.rules.specs.Refusals.{First, createCases, writeCases}
 use Rattle.rules.specs.Calls.{Opening, Opens, plainNumber, Creation, Creates, createNumber, Writing, Writes, writeNumber, Completion, Completes}
 use Rattle.rules.proofs.Granted.{create-passed, write-passed}
 use Rattle.rules.proofs.SoundCalls.{open-sound}
@@ -67,9 +66,8 @@ module _ (h : History) (g : Good h) where
       go (no d) = subst (λ (x : Creation). Good (afterCreate h c x)) (sym (p .refusal d)) g
       go (yes z) =
           let a = p .grant z in
-          let f = subst (First (createCases (h .table) (h .image) (h .undo) c)) z (p .first) in
           subst (λ (x : Creation). Good (afterCreate h c x)) (sym (a .whole))
-          (created-good (record { good = g; lowest = a .lowest; held = a .hard-or-soft; passed = create-passed (h .table) (h .image) (h .undo) c f }))
+          (created-good (record { good = g; lowest = a .lowest; held = a .hard-or-soft; passed = create-passed p z }))
 
   -- ---- write
   write-good : (b : ℕ) (lent : List ℕ) (o : Writing) → Writes (h .table) (h .image) (h .undo) lent b o → Good (afterWrite h b o)
@@ -80,9 +78,8 @@ module _ (h : History) (g : Good h) where
       go (no d) = subst (λ (x : Writing). Good (afterWrite h b x)) (sym (p .refusal d)) g
       go (yes z) =
           let a = p .grant z in
-          let f = subst (First (writeCases (h .table) (h .image) (h .undo) lent b)) z (p .first) in
           subst (λ (x : Writing). Good (afterWrite h b x)) (sym (a .whole))
-          (gone-good (record { good = g; lent = lent; passed = write-passed (h .table) (h .image) (h .undo) lent b f; largest = a .largest }))
+          (gone-good (record { good = g; lent = lent; passed = write-passed p z; largest = a .largest }))
 
   -- ---- complete
   complete-good : (b : ℕ) (o : Completion) → Completes (h .table) b o → Good (afterComplete h b o)

@@ -1,20 +1,24 @@
 -- What the slots say of the changes of the log, in clauses that leave room for several changes under one number; and that they still say it when a call keeps
 -- numbers, blocks and ranges.
 use Prim.Native.Nat.{ℕ, _<_}
-use mathlib.Core.Path.{_≡_, sym, _∙_, ap, subst}
+use mathlib.Core.Path.{_≡_, refl, sym, _∙_, ap, subst}
 use mathlib.Core.Bool.{true}
 use mathlib.Core.List.{List, List·Memᴰ}
+use mathlib.Core.Option.{Option, none, some}
+use Rattle.masks.proofs.Decided.{clash}
 use lib.ListN.{length}
 use Rattle.rules.specs.declared.Slot.{Slot}
 use Rattle.rules.specs.Sizes.{slots}
-use Rattle.rules.specs.Slots.{isUsed}
+use Rattle.rules.specs.Slots.{hasRoom, roomOf}
 use Rattle.rules.specs.Table.{slotAt, used}
 use Rattle.rules.specs.Create.{overlaps}
+use Rattle.rules.proofs.Words.{roomed-used, room-is}
+use Rattle.rules.proofs.StaysSound.{Like}
 use Rattle.cut.specs.Changes.{Change, Share}
 use Rattle.demands.specs.History.{Accepted}
 use Rattle.demands.proofs.Log.{plain, Oldest, Once}
-use Rattle.demands.proofs.Lookup.{carries, carries-used, carries-number, carries-of}
-use Rattle.demands.proofs.Words.{isSoft, soft-used}
+use Rattle.demands.proofs.Lookup.{carries, slotOf, carries-used, carries-number, carries-of}
+use Rattle.demands.proofs.Words.{roomed, roomedAt, roomAt, roomedOf, roomFor}
 
 -- the slot has the change's range
 pub record Range (s : Slot) (c : Change) : Type 0 where
@@ -31,20 +35,18 @@ pub record Linked (ss : List Slot) (l : List Accepted) : Type 0 where
   -- its own range is that of the first change of its number: create
   pub range : (a : Accepted) → Oldest l a → (i : ℕ) → Has ss a i → Range (slotAt ss i) (plain a)
   -- a patch with a room stands for one change, so that its room has the old bytes of all that it stands for: create
-  pub single : (i : ℕ) → i < slots → isSoft (slotAt ss i .state) ≡ true → Once (slotAt ss i .number) l
+  pub single : (i : ℕ) → i < slots → roomed (slotAt ss i .state) ≡ true → Once (slotAt ss i .number) l
   -- whoever shares a byte with the change is told so by the rules' own test on its slot, whichever range that has: create
   pub told : (a : Accepted) → List·Memᴰ a l → (i : ℕ) → Has ss a i → (y : Accepted) → Share (plain y) (plain a) → overlaps ss (y .change) i ≡ true
 
--- the slot n is the slot s, but for its befores and its state, which is in use as before and has no new room
-pub record Kin (n s : Slot) : Type 0 where
-  pub used : isUsed (n .state) ≡ isUsed (s .state)
-  pub soft : isSoft (n .state) ≡ true → n .state ≡ s .state
-  pub number : n .number ≡ s .number
-  pub block : n .block ≡ s .block
-  pub offset : n .offset ≡ s .offset
-  pub len : n .len ≡ s .len
+-- a slot that is like another has a room only if that one has it
+pub like-room : {n s : Slot} → Like n s → roomed (n .state) ≡ true → (roomed (s .state) ≡ true) × (roomOf (n .state) ≡ roomOf (s .state))
+like-room {n} {s} k e =
+    let had = k .room (roomOf (n .state)) e in
+    let same = room-is (s .state) (roomOf (n .state)) had in
+    (ap (hasRoom (s .state)) same ∙ had, sym same)
 
-module _ (ss ss′ : List Slot) (i : ℕ) (k : Kin (slotAt ss′ i) (slotAt ss i)) where
+module _ (ss ss′ : List Slot) (i : ℕ) (k : Like (slotAt ss′ i) (slotAt ss i)) where
   pub carries-was : (n : ℕ) → carries ss′ n i ≡ true → carries ss n i ≡ true
   carries-was n e = carries-of ss n i (sym (k .used) ∙ carries-used ss′ n i e) (sym (k .number) ∙ carries-number ss′ n i e)
 
@@ -58,16 +60,30 @@ module _ (ss ss′ : List Slot) (i : ℕ) (k : Kin (slotAt ss′ i) (slotAt ss i
   overlaps-still y e = cc
 
 -- every slot in use afterwards is one as it was
-pub linked-kept : (ss ss′ : List Slot) (l : List Accepted) → ((i : ℕ) → i < slots → used ss′ i ≡ true → Kin (slotAt ss′ i) (slotAt ss i))
+pub linked-kept : (ss ss′ : List Slot) (l : List Accepted) → ((i : ℕ) → i < slots → used ss′ i ≡ true → Like (slotAt ss′ i) (slotAt ss i))
     → Linked ss l → Linked ss′ l
-linked-kept ss ss′ l kin k = record {
-  block = λ a m i h. let q = near a i h in q .block ∙ k .block a m i (h .0, carries-was ss ss′ i q (a .number) (h .1));
-  range = λ a o i h. let q = near a i h in range-still ss ss′ i q (plain a) (k .range a o i (h .0, carries-was ss ss′ i q (a .number) (h .1)));
+linked-kept ss ss′ l like k = record {
+  block = λ a m i h. near a i h .block ∙ k .block a m i (had a i h);
+  range = λ a o i h. range-still ss ss′ i (near a i h) (plain a) (k .range a o i (had a i h));
   single = λ i h e.
-      let q = kin i h (soft-used (slotAt ss′ i .state) e) in
-      subst (λ (n : ℕ). Once n l) (sym (q .number)) (k .single i h (sym (ap isSoft (q .soft e)) ∙ e));
-  told = λ a m i h y s. let q = near a i h in overlaps-still ss ss′ i q y (k .told a m i (h .0, carries-was ss ss′ i q (a .number) (h .1)) y s);
+      let q = like i h (roomed-used (slotAt ss′ i .state) (roomOf (slotAt ss′ i .state)) e) in
+      subst (λ (n : ℕ). Once n l) (sym (q .number)) (k .single i h (like-room q e .0));
+  told = λ a m i h y s. overlaps-still ss ss′ i (near a i h) y (k .told a m i (had a i h) y s);
 }
   where
-    near : (a : Accepted) (i : ℕ) → Has ss′ a i → Kin (slotAt ss′ i) (slotAt ss i)
-    near a i h = kin i (h .0) (carries-used ss′ (a .number) i (h .1))
+    near : (a : Accepted) (i : ℕ) → Has ss′ a i → Like (slotAt ss′ i) (slotAt ss i)
+    near a i h = like i (h .0) (carries-used ss′ (a .number) i (h .1))
+
+    had : (a : Accepted) (i : ℕ) → Has ss′ a i → Has ss a i
+    had a i h = (h .0, carries-was ss ss′ i (near a i h) (a .number) (h .1))
+
+-- a number that keeps its slot has its room afterwards only if it had it
+pub room-stays : (ss ss′ : List Slot) (n : ℕ) → slotOf ss′ n ≡ slotOf ss n → ((i : ℕ) → slotOf ss n ≡ some i → Like (slotAt ss′ i) (slotAt ss i))
+    → roomedOf ss′ n ≡ true → (roomedOf ss n ≡ true) × (roomFor ss′ n ≡ roomFor ss n)
+room-stays ss ss′ n e like = go (slotOf ss n) refl
+  where
+    go : (p : Option ℕ) → slotOf ss n ≡ p → roomedOf ss′ n ≡ true → (roomedOf ss n ≡ true) × (roomFor ss′ n ≡ roomFor ss n)
+    go none q u = absurd (clash u (ap (roomedAt ss′) (e ∙ q)))
+    go (some i) q u =
+        let had = like-room (like i q) (sym (ap (roomedAt ss′) (e ∙ q)) ∙ u) in
+        (ap (roomedAt ss) q ∙ had .0, ap (roomAt ss′) (e ∙ q) ∙ had .1 ∙ sym (ap (roomAt ss) q))

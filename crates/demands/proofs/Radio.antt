@@ -24,7 +24,7 @@ use Rattle.demands.proofs.Log.{plain, Numbered, NamesOlder, block-one}
 use Rattle.demands.proofs.Views.{view, Within}
 use Rattle.demands.proofs.Notes.{AllWhole, mem-left}
 use Rattle.demands.proofs.Lookup.{slotOf, slot-carries}
-use Rattle.demands.proofs.Words.{stateAt, wordOf, softOf, roomFor, Tied, isDone, isOut, word-flying}
+use Rattle.demands.proofs.Words.{stateAt, wordOf, roomedOf, roomFor, Tied, isDone, isOut, word-flying}
 use Rattle.demands.proofs.Linked.{Linked}
 
 -- y's caller named x's number
@@ -64,7 +64,7 @@ world h = record {
   log = map plain (h .accepted);
   asked = Names (h .accepted);
   state = λ c. wordOf (h .table .slots) (c .number);
-  kept = λ c. softOf (h .table .slots) (c .number);
+  kept = λ c. roomedOf (h .table .slots) (c .number);
   undo = oldByte (h .table .slots) (h .undo);
   tied = λ y x. Tied (h .table .slots) (y .number) (x .number);
 }

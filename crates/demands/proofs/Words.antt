@@ -1,7 +1,7 @@
 -- Where a number's patch is, whether it has a room, and what it is tied to: read off its slot, in the words of `cut`.
 use Prim.Native.Nat.{ℕ}
 use native.Mathlib.Omega.{arith}
-use mathlib.Core.Path.{_≡_, refl}
+use mathlib.Core.Path.{_≡_, refl, _∙_}
 use mathlib.Core.Bool.{Bool, true, false}
 use mathlib.Core.List.{List}
 use mathlib.Core.Option.{Option, none, some}
@@ -12,8 +12,8 @@ use Rattle.rules.specs.declared.Hold.the-variants as hold
 use Rattle.rules.specs.declared.State as rules
 use Rattle.rules.specs.declared.State.the-variants as state
 use Rattle.rules.specs.declared.Slot.{Slot}
-use Rattle.rules.specs.Slots.{isUsed, isWaiting, isInFlight, isHard, hasRoom, roomOf}
-use Rattle.rules.specs.Table.{slotAt, HasRoom}
+use Rattle.rules.specs.Slots.{isWaiting, isInFlight, isHard, hasRoom, roomOf}
+use Rattle.rules.specs.Table.{slotAt}
 use Rattle.cut.specs.World as cut
 use Rattle.cut.specs.World.{State, waiting, inFlight, committed}
 use Rattle.demands.proofs.Lookup.{slotOf}
@@ -25,19 +25,16 @@ stateWord (state.Waiting h) = waiting
 stateWord (state.InFlight k) = inFlight
 
 -- does it have a room?
-abbrev pub isSoft : rules.State → Bool
-isSoft state.Free = false
-isSoft (state.Waiting hold.Hard) = false
-isSoft (state.Waiting (hold.Soft r)) = true
-isSoft (state.InFlight k) = false
+abbrev pub roomed : rules.State → Bool
+roomed u = hasRoom u (roomOf u)
 
 abbrev pub stateAt : List Slot → Option ℕ → State
 stateAt ss none = committed
 stateAt ss (some j) = stateWord (slotAt ss j .state)
 
-abbrev pub softAt : List Slot → Option ℕ → Bool
-softAt ss none = false
-softAt ss (some j) = isSoft (slotAt ss j .state)
+abbrev pub roomedAt : List Slot → Option ℕ → Bool
+roomedAt ss none = false
+roomedAt ss (some j) = roomed (slotAt ss j .state)
 
 abbrev pub roomAt : List Slot → Option ℕ → ℕ
 roomAt ss none = 0
@@ -47,8 +44,8 @@ roomAt ss (some j) = roomOf (slotAt ss j .state)
 abbrev pub wordOf : List Slot → ℕ → State
 wordOf ss n = stateAt ss (slotOf ss n)
 
-abbrev pub softOf : List Slot → ℕ → Bool
-softOf ss n = softAt ss (slotOf ss n)
+abbrev pub roomedOf : List Slot → ℕ → Bool
+roomedOf ss n = roomedAt ss (slotOf ss n)
 
 abbrev pub roomFor : List Slot → ℕ → ℕ
 roomFor ss n = roomAt ss (slotOf ss n)
@@ -60,6 +57,18 @@ pub record Tied (ss : List Slot) (m n : ℕ) : Type 0 where
   pub mineIs : slotOf ss m ≡ some mine
   pub itsIs : slotOf ss n ≡ some its
   pub before : has (slotAt ss mine .befores) its ≡ true
+
+-- a tie stands where both numbers keep their slots, and the one its before
+pub tie-stays : (ss ss′ : List Slot) (m n : ℕ) → slotOf ss′ m ≡ slotOf ss m → slotOf ss′ n ≡ slotOf ss n
+    → ((i j : ℕ) → slotOf ss m ≡ some i → slotOf ss n ≡ some j → has (slotAt ss i .befores) j ≡ true → has (slotAt ss′ i .befores) j ≡ true)
+    → Tied ss m n → Tied ss′ m n
+tie-stays ss ss′ m n em en f t = record {
+  mine = t .mine;
+  its = t .its;
+  mineIs = em ∙ t .mineIs;
+  itsIs = en ∙ t .itsIs;
+  before = f (t .mine) (t .its) (t .mineIs) (t .itsIs) (t .before);
+}
 
 -- is the state that of a change on the store; on its way
 abbrev pub isDone : State → Bool
@@ -96,26 +105,12 @@ same-word state.Free = refl
 same-word (state.Waiting h) = refl
 same-word (state.InFlight k) = refl
 
-pub soft-used : (u : rules.State) → isSoft u ≡ true → isUsed u ≡ true
-soft-used state.Free e = e
-soft-used (state.Waiting h) e = refl
-soft-used (state.InFlight k) e = refl
-
--- a waiting patch that is not hard is soft, and has a room
-pub not-hard : (u : rules.State) → isWaiting u ≡ true → (isHard u ≡ true → ⊥) → isSoft u ≡ true
+-- a waiting patch that is not hard has a room
+pub not-hard : (u : rules.State) → isWaiting u ≡ true → (isHard u ≡ true → ⊥) → roomed u ≡ true
 not-hard state.Free e n = e
 not-hard (state.Waiting hold.Hard) e n = absurd (n refl)
-not-hard (state.Waiting (hold.Soft r)) e n = refl
+not-hard (state.Waiting (hold.Soft r)) e n = eq-eqb r r refl
 not-hard (state.InFlight k) e n = e
-
-pub soft-room : (ss : List Slot) (i : ℕ) → isSoft (slotAt ss i .state) ≡ true → HasRoom ss i (roomOf (slotAt ss i .state))
-soft-room ss i = go (slotAt ss i .state)
-  where
-    go : (u : rules.State) → isSoft u ≡ true → hasRoom u (roomOf u) ≡ true
-    go state.Free e = absurd (clash e refl)
-    go (state.Waiting hold.Hard) e = absurd (clash e refl)
-    go (state.Waiting (hold.Soft r)) e = eq-eqb r r refl
-    go (state.InFlight k) e = absurd (clash e refl)
 
 -- whatever is out is in flight
 pub out-flies : (s : State) → isOut s ≡ true → s ≡ inFlight

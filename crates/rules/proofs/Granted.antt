@@ -17,6 +17,7 @@ use Rattle.rules.specs.Table.{Table, used, waitsOn, Sound, Issued}
 use Rattle.rules.specs.Create.{Change, isIn}
 use Rattle.rules.specs.Write.{MayGo, Largest}
 use Rattle.rules.specs.Refusals.{First, Flies, Waits, OnlyEmpty, NamesUnissued, createCases, writeCases}
+use Rattle.rules.specs.Calls.{Creation, Creates, createNumber, Writing, Writes, writeNumber}
 use Rattle.rules.proofs.Cases.{passed}
 
 -- ---- a refusal that does not hold says only that its opposite cannot fail; each of these opposites then holds
@@ -33,7 +34,7 @@ below {m} {n} f = elim (decLt m n) [ yes l ↦ l | no d ↦ absurd (f d) ]
 is-used : (ss : List Slot) (i : ℕ) → ((used ss i ≡ true → ⊥) → ⊥) → used ss i ≡ true
 is-used ss i f = ⊎-elim (λ e. e) (λ e. absurd (f (λ u. clash u e))) (true-or-false (used ss i))
 
-pub sound-holds : (t : Table) → ((Sound t → ⊥) → ⊥) → Sound t
+sound-holds : (t : Table) → ((Sound t → ⊥) → ⊥) → Sound t
 sound-holds t n = record {
   first-least = at-most (λ d. n (λ s. d (s .first-least)));
   first-most = at-most (λ d. n (λ s. d (s .first-most)));
@@ -77,8 +78,8 @@ pub record CreatePassed (t : Table) (image undo : List ℕ) (c : Change) : Type 
   pub issued : NamesIssued t c
   pub last : t .next ≤ lastNumber
 
-pub create-passed : (t : Table) (image undo : List ℕ) (c : Change) → First (createCases t image undo c) 0 → CreatePassed t image undo c
-create-passed t image undo c f =
+create-facts : (t : Table) (image undo : List ℕ) (c : Change) → First (createCases t image undo c) 0 → CreatePassed t image undo c
+create-facts t image undo c f =
     let c1 = passed (λ e. omega arith) f in
     let c2 = passed (λ e. omega arith) (c1 .1) in
     let c3 = passed (λ e. omega arith) (c2 .1) in
@@ -103,6 +104,10 @@ create-passed t image undo c f =
       last = omega (arith, c8 .0, is-sound .next-most);
     }
 
+pub create-passed : {t : Table} {image undo : List ℕ} {c : Change} {o : Creation} → Creates t image undo c o → createNumber (o .answer) ≡ 0
+    → CreatePassed t image undo c
+create-passed {t} {image} {undo} {c} p z = create-facts t image undo c (subst (First (createCases t image undo c)) z (p .first))
+
 -- ---- write
 
 -- none of the refusals of a write holds
@@ -126,8 +131,8 @@ member ss b s w e l =
     never u i z p (inl f) = absurd (clash (subst (λ (x : ℕ). has x i ≡ true) z (l .most u p i f)) (has-none i))
     never u i z p (inr f) = f
 
-pub write-passed : (t : Table) (image undo block : List ℕ) (b : ℕ) → First (writeCases t image undo block b) 0 → WritePassed t image undo block b
-write-passed t image undo block b f =
+write-facts : (t : Table) (image undo block : List ℕ) (b : ℕ) → First (writeCases t image undo block b) 0 → WritePassed t image undo block b
+write-facts t image undo block b f =
     let c1 = passed (λ e. omega arith) f in
     let c2 = passed (λ e. omega arith) (c1 .1) in
     let c3 = passed (λ e. omega arith) (c2 .1) in
@@ -145,3 +150,7 @@ write-passed t image undo block b f =
       some-wait = waits;
       some-goes = λ s. member (t .slots) b s waits (c6 .0);
     }
+
+pub write-passed : {t : Table} {image undo block : List ℕ} {b : ℕ} {o : Writing} → Writes t image undo block b o → writeNumber (o .answer) ≡ 0
+    → WritePassed t image undo block b
+write-passed {t} {image} {undo} {block} {b} p z = write-facts t image undo block b (subst (First (writeCases t image undo block b)) z (p .first))

@@ -8,7 +8,7 @@ use native.Mathlib.Decide.{ℕ-discrete}
 use Rattle.rules.specs.Sizes.{lastNumber}
 use Rattle.rules.specs.Table.{Table, Sound}
 use Rattle.rules.specs.Create.{Change}
-use Rattle.rules.specs.Refusals.{First, openCases, createCases}
+use Rattle.rules.specs.Refusals.{First, openCases}
 use Rattle.rules.specs.Calls.{Opening, Opens, Creation, Creates, Writing, Writes, Completion, Completes, plainNumber, createNumber, writeNumber, sentSet}
 use Rattle.rules.proofs.Cases.{passed}
 use Rattle.rules.proofs.Granted.{create-passed}
@@ -32,8 +32,8 @@ create-sound t image undo c o s p = go (ℕ-discrete (createNumber (o .answer)) 
     go (no d) = subst (λ (x : Creation). Sound (x .table)) (sym (p .refusal d)) s
     go (yes z) =
         let g = p .grant z in
-        let v = create-passed t image undo c (subst (First (createCases t image undo c)) z (p .first)) in
-        subst (λ (x : Creation). Sound (x .table)) (sym (g .whole)) (accepted-sound t image undo c (g .slot) (g .hold) v (g .lowest) (g .hard-or-soft))
+        subst (λ (x : Creation). Sound (x .table)) (sym (g .whole))
+        (accepted-sound t image undo c (g .slot) (g .hold) (create-passed p z) (g .lowest) (g .hard-or-soft))
 
 pub write-sound : (t : Table) (image undo block : List ℕ) (b : ℕ) (o : Writing) → Sound t → Writes t image undo block b o → Sound (o .table)
 write-sound t image undo block b o s p = go (ℕ-discrete (writeNumber (o .answer)) 0)

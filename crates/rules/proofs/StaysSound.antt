@@ -103,7 +103,7 @@ opened-sound n a b = record {
 
 -- ---- write
 
-sent-like : (goes : Bool) (s : Slot) → Like (sentSlot goes s) s
+pub sent-like : (goes : Bool) (s : Slot) → Like (sentSlot goes s) s
 sent-like goes s = state-like goes (sentState (s .state)) s (sent-used (s .state)) (sent-room (s .state))
 
 pub sent-sound : (t : Table) (set : ℕ) → Sound t → Sound (sent t set)
@@ -140,7 +140,7 @@ remaining-was ss b s k h =
     let w = and-true (has (s .befores) k) (not (fliesOn ss b k)) (sym (befores-at ss b s k l) ∙ h) in
     (w .0, not-true (fliesOn ss b k) (w .1))
 
-remaining-like : (ss : List Slot) (b : ℕ) (s : Slot) → Like (withoutBefores (landing ss b) s) s
+pub remaining-like : (ss : List Slot) (b : ℕ) (s : Slot) → Like (withoutBefores (landing ss b) s) s
 remaining-like ss b s =
     record { used = refl; number = refl; block = refl; offset = refl; len = refl; befores = λ k h. remaining-was ss b s k h .0; room = λ r e. e }
 
@@ -235,7 +235,7 @@ module _ (t : Table) (s : Sound t) (ss : List Slot) (j : ℕ) (p : Slot) (jl : j
         (λ d h. each (λ k n. hasRoom (n .state) r ≡ true → i ≡ k) k m (λ g. absurd (fit .room r g .1 i l h)) (λ c g. s .rooms-differ i k r l m h g));
   }
 
-turned-like : (h : Hold) (b : ℕ) (s : Slot) → Like (turned h b s) s
+pub turned-like : (h : Hold) (b : ℕ) (s : Slot) → Like (turned h b s) s
 turned-like hold.Hard b s = state-like (eqb (s .block) b) (turnedState (s .state)) s (turned-used (s .state)) (turned-room (s .state))
 turned-like (hold.Soft r) b s = like-self s
 

@@ -1,15 +1,15 @@
 -- A granted complete as a landing of `cut`: the store with the block's write there, and what it leaves of undo data and ties.
 use Prim.Native.Nat.{ℕ, _-_}
-use mathlib.Core.Path.{_≡_, refl, sym, _∙_, ap, subst}
+use mathlib.Core.Path.{_≡_, refl, sym, _∙_, ap}
 use mathlib.Core.Bool.{Bool, true, false, cond, not}
 use mathlib.Core.List.{List, _++_, List·Memᴰ, map}
+use mathlib.Core.Option.{some}
 use mathlib.Core.Logic.{_≢_, _⊎_, inl, inr}
 use borrow.Author.Tests.{eq-eqb, ne-eqb}
 use lib.Dec.{eqb}
 use Rattle.masks.specs.Sets.{has}
 use Rattle.masks.proofs.Decided.{clash, true-and}
 use Rattle.rules.specs.declared.Slot.{Slot}
-use Rattle.rules.specs.Slots.{roomOf}
 use Rattle.rules.specs.Table.{slotAt}
 use Rattle.rules.proofs.After.{befores-at}
 use Rattle.cut.specs.Changes.{Change}
@@ -19,10 +19,11 @@ use Rattle.demands.specs.Demand3.{written}
 use Rattle.demands.proofs.Log.{plain, on-log}
 use Rattle.demands.proofs.Views.{view}
 use Rattle.demands.proofs.Notes.{AllWhole, some-written, written-alike, mem-left}
-use Rattle.demands.proofs.Lookup.{slot-carries}
-use Rattle.demands.proofs.Words.{isSoft, stateAt, softAt, roomAt, wordOf, softOf, roomFor, Tied}
+use Rattle.demands.proofs.Lookup.{slotOf, slot-carries}
+use Rattle.demands.proofs.Words.{stateAt, roomedAt, wordOf, roomedOf, Tied, tie-stays}
+use Rattle.demands.proofs.Linked.{room-stays}
 use Rattle.demands.proofs.Radio.{roomByte, oldByte, world, Good}
-use Rattle.demands.proofs.Complete.Slots.{settledIf, to-it, elsewhere, landed, Fate, fate, state-after}
+use Rattle.demands.proofs.Complete.Slots.{settledIf, to-it, elsewhere, landed, Fate, fate, stays-at, like-at, state-after}
 
 module _ {h : History} (g : Good h) (b : ℕ) where
   abbrev ss : List Slot
@@ -33,19 +34,17 @@ module _ {h : History} (g : Good h) (b : ℕ) where
 
   -- ---- undo data and ties
 
-  old-undo : (x : Change) → softOf ss′ (x .number) ≡ true
-      → (softOf ss (x .number) ≡ true) × ((i : ℕ) → oldByte ss′ (h .undo) x i ≡ oldByte ss (h .undo) x i)
+  old-undo : (x : Change) → roomedOf ss′ (x .number) ≡ true
+      → (roomedOf ss (x .number) ≡ true) × ((i : ℕ) → oldByte ss′ (h .undo) x i ≡ oldByte ss (h .undo) x i)
   old-undo x s = pick (fate g b (x .number))
     where
-      pick : Fate g b (x .number) → (softOf ss (x .number) ≡ true) × ((i : ℕ) → oldByte ss′ (h .undo) x i ≡ oldByte ss (h .undo) x i)
-      pick (Fate.gone e f) = absurd (clash s (ap (softAt ss′) f))
-      pick (Fate.lost j e l f) = absurd (clash s (ap (softAt ss′) f))
-      pick (Fate.kept j e f z) =
-          let soft : softOf ss (x .number) ≡ softOf ss′ (x .number) =
-          ap (softAt ss) e ∙ sym (ap (λ (y : Slot). isSoft (y .state)) (z .is)) ∙ sym (ap (softAt ss′) f) in
-          let room : roomFor ss′ (x .number) ≡ roomFor ss (x .number) =
-          ap (roomAt ss′) f ∙ ap (λ (y : Slot). roomOf (y .state)) (z .is) ∙ sym (ap (roomAt ss) e) in
-          (soft ∙ s, λ i. ap (λ (q : ℕ). roomByte (h .undo) q (i - x .offset)) room)
+      pick : Fate g b (x .number) → (roomedOf ss (x .number) ≡ true) × ((i : ℕ) → oldByte ss′ (h .undo) x i ≡ oldByte ss (h .undo) x i)
+      pick (Fate.gone e f) = absurd (clash s (ap (roomedAt ss′) f))
+      pick (Fate.lost j e l f) = absurd (clash s (ap (roomedAt ss′) f))
+      pick (Fate.kept j e f) =
+          let same = f ∙ sym e in
+          let r = room-stays ss ss′ (x .number) same (λ i q. like-at g b (x .number) i (same ∙ q)) s in
+          (r .0, λ i. ap (λ (q : ℕ). roomByte (h .undo) q (i - x .offset)) (r .1))
 
   old-ties : (m n : ℕ) → wordOf ss′ m ≢ committed → Tied ss m n → (wordOf ss′ n ≡ committed) ⊎ Tied ss′ m n
   old-ties m n w t = pick (fate g b m) (fate g b n)
@@ -53,25 +52,17 @@ module _ {h : History} (g : Good h) (b : ℕ) where
       pick : Fate g b m → Fate g b n → (wordOf ss′ n ≡ committed) ⊎ Tied ss′ m n
       pick fm (Fate.gone e f) = inl (ap (stateAt ss′) f)
       pick fm (Fate.lost j e l f) = inl (ap (stateAt ss′) f)
-      pick (Fate.gone e f) (Fate.kept j a q z) = absurd (w (ap (stateAt ss′) f))
-      pick (Fate.lost i e k f) (Fate.kept j a q z) = absurd (w (ap (stateAt ss′) f))
-      pick (Fate.kept i e f y) (Fate.kept j a q z) =
-          let mine = t .mineIs in
-          let its = t .itsIs in
-          let ei : t .mine ≡ i = cc in
-          let ej : t .its ≡ j = cc in
-          let was : has (slotAt ss i .befores) j ≡ true =
-          subst (λ (p : ℕ). has (slotAt ss p .befores) j ≡ true) ei (subst (λ (p : ℕ). has (slotAt ss (t .mine) .befores) p ≡ true) ej (t .before)) in
-          inr (record {
-            mine = i;
-            its = j;
-            mineIs = f;
-            itsIs = q;
-            before =
-                ap (λ (s : Slot). has (s .befores) j) (y .is)
-                ∙ befores-at ss b (slotAt ss i) j (slot-carries ss n j a .0)
-                ∙ true-and was (ap not (z .lies));
-          })
+      pick (Fate.gone e f) (Fate.kept j a q) = absurd (w (ap (stateAt ss′) f))
+      pick (Fate.lost i e k f) (Fate.kept j a q) = absurd (w (ap (stateAt ss′) f))
+      pick (Fate.kept i e f) (Fate.kept j a q) = inr (tie-stays ss ss′ m n (f ∙ sym e) (q ∙ sym a) (stays (f ∙ sym e) (q ∙ sym a)) t)
+        where
+          -- a before that stays is among those that remain
+          stays : slotOf ss′ m ≡ slotOf ss m → slotOf ss′ n ≡ slotOf ss n → (i j : ℕ) → slotOf ss m ≡ some i → slotOf ss n ≡ some j
+              → has (slotAt ss i .befores) j ≡ true → has (slotAt ss′ i .befores) j ≡ true
+          stays em en i j ei ej before =
+              ap (λ (s : Slot). has (s .befores) j) (stays-at g b m i (em ∙ ei) .is)
+              ∙ befores-at ss b (slotAt ss i) j (slot-carries ss n j ej .0)
+              ∙ true-and before (ap not (stays-at g b n j (en ∙ ej) .lies))
 
   -- ---- the store
 

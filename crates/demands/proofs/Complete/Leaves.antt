@@ -15,7 +15,7 @@ use Rattle.demands.proofs.Notes.{sent-in-both, sent-in-those, of-those,
 use Rattle.demands.proofs.Words.{wordOf, isDone, isOut}
 use Rattle.demands.proofs.Linked.{linked-kept}
 use Rattle.demands.proofs.Radio.{Good, sent-to}
-use Rattle.demands.proofs.Complete.Slots.{settledIf, to-it, elsewhere, landed, sound′, kin, state-after}
+use Rattle.demands.proofs.Complete.Slots.{settledIf, to-it, elsewhere, landed, sound′, like, state-after}
 use Rattle.demands.proofs.Complete.Lands.{lands}
 
 -- after the landing, by block and state
@@ -70,7 +70,7 @@ module _ {h : History} (g : Good h) (b : ℕ) where
     sound = sound′ g b;
     numbers = g .numbers;
     older = g .older;
-    linked = linked-kept ss ss′ (h .accepted) (kin g b) (g .linked);
+    linked = linked-kept ss ss′ (h .accepted) (like g b) (g .linked);
     within = g .within;
     image-whole = g .image-whole;
     opening-whole = g .opening-whole;

@@ -13,12 +13,12 @@ use Rattle.rules.specs.Sizes.{slots}
 use Rattle.rules.specs.Slots.{isUsed, isInFlight}
 use Rattle.rules.specs.Table.{slotAt, used, fliesOn, Sound}
 use Rattle.rules.specs.Complete.{withoutBefores, landing, completedSlots, completed}
-use Rattle.rules.proofs.StaysSound.{Finished, finished, completed-sound}
+use Rattle.rules.proofs.StaysSound.{Like, Finished, finished, remaining-like, completed-sound}
 use Rattle.cut.specs.World.{State, committed, settled}
 use Rattle.demands.specs.History.{History, Accepted, Sent, those}
 use Rattle.demands.proofs.Lookup.{carries, slotOf, carries-used, carries-number, at-slot, slot-carries, no-slot, nowhere}
 use Rattle.demands.proofs.Words.{stateWord, stateAt, wordOf}
-use Rattle.demands.proofs.Linked.{Kin, carries-was, carries-still}
+use Rattle.demands.proofs.Linked.{carries-was, carries-still}
 use Rattle.demands.proofs.Radio.{Good}
 
 -- the state of a change once a block has landed, whose own block it may be
@@ -89,12 +89,12 @@ module _ {h : History} (g : Good h) (b : ℕ) where
       go (Finished.was-free f v e) = absurd (clash u (ap (λ (s : Slot). isUsed (s .state)) e ∙ v))
 
   -- and is as it was, but for its befores
-  kin-of : (i : ℕ) → slotAt ss′ i ≡ withoutBefores (landing ss b) (slotAt ss i) → Kin (slotAt ss′ i) (slotAt ss i)
-  kin-of i e =
-      subst (λ (x : Slot). Kin x (slotAt ss i)) (sym e) (record { used = refl; soft = λ e. refl; number = refl; block = refl; offset = refl; len = refl })
+  like-of : (i : ℕ) → slotAt ss′ i ≡ withoutBefores (landing ss b) (slotAt ss i) → Like (slotAt ss′ i) (slotAt ss i)
+  like-of i e =
+      subst (λ (x : Slot). Like x (slotAt ss i)) (sym e) (remaining-like ss b (slotAt ss i))
 
-  pub kin : (i : ℕ) → i < slots → used ss′ i ≡ true → Kin (slotAt ss′ i) (slotAt ss i)
-  kin i l u = kin-of i (stayed i l u .is)
+  pub like : (i : ℕ) → i < slots → used ss′ i ≡ true → Like (slotAt ss′ i) (slotAt ss i)
+  like i l u = like-of i (stayed i l u .is)
 
   -- ---- numbers
 
@@ -102,11 +102,11 @@ module _ {h : History} (g : Good h) (b : ℕ) where
   pub data Fate (n : ℕ) : Type 0 where
     gone : slotOf ss n ≡ none → slotOf ss′ n ≡ none → Fate n
     lost : (j : ℕ) → slotOf ss n ≡ some j → fliesOn ss b j ≡ true → slotOf ss′ n ≡ none → Fate n
-    kept : (j : ℕ) → slotOf ss n ≡ some j → slotOf ss′ n ≡ some j → Stayed j → Fate n
+    kept : (j : ℕ) → slotOf ss n ≡ some j → slotOf ss′ n ≡ some j → Fate n
 
   -- a slot that has the number afterwards had it, and stayed
   had : (n i : ℕ) → i < slots → carries ss′ n i ≡ true → (carries ss n i ≡ true) × Stayed i
-  had n i l f = let s = stayed i l (carries-used ss′ n i f) in (carries-was ss ss′ i (kin-of i (s .is)) n f, s)
+  had n i l f = let s = stayed i l (carries-used ss′ n i f) in (carries-was ss ss′ i (like-of i (s .is)) n f, s)
 
   pub fate : (n : ℕ) → Fate n
   fate n = pick (slotOf ss n) refl
@@ -119,12 +119,19 @@ module _ {h : History} (g : Good h) (b : ℕ) where
       at-j j e l c (Finished.commits f s) = lost j e f (no-slot ss′ n (λ i m q.
           let w = had n i m q in clash f (sym (ap (fliesOn ss b) (alone i j m l (w .0) c)) ∙ w .1 .lies)))
       at-j j e l c (Finished.stays f u s) =
-          kept j e (at-slot ss′ n j (sound′ .numbers-differ) l (carries-still ss ss′ j (kin-of j s) n c)) (record { lies = f; is = s })
+          kept j e (at-slot ss′ n j (sound′ .numbers-differ) l (carries-still ss ss′ j (like-of j s) n c))
       at-j j e l c (Finished.was-free f u s) = absurd (clash (carries-used ss n j c) u)
 
       pick : (p : Option ℕ) → slotOf ss n ≡ p → Fate n
       pick none e = gone e (no-slot ss′ n (λ i m q. nowhere ss n e i m (had n i m q .0)))
       pick (some j) e = let c = slot-carries ss n j e in at-j j e (c .0) (c .1) (finished ss b j (c .0))
+
+  -- a slot that a number has afterwards stayed
+  pub stays-at : (n i : ℕ) → slotOf ss′ n ≡ some i → Stayed i
+  stays-at n i e = let c = slot-carries ss′ n i e in stayed i (c .0) (carries-used ss′ n i (c .1))
+
+  pub like-at : (n i : ℕ) → slotOf ss′ n ≡ some i → Like (slotAt ss′ i) (slotAt ss i)
+  like-at n i e = like-of i (stays-at n i e .is)
 
   -- where each change is: those of the block that were in flight have committed, and no other moves
   pub state-after : (a : Accepted) → List·Memᴰ a (h .accepted) → wordOf ss′ (a .number) ≡ settledIf (eqb (a .change .block) b) (wordOf ss (a .number))
@@ -142,6 +149,7 @@ module _ {h : History} (g : Good h) (b : ℕ) where
       pick : Fate (a .number) → wordOf ss′ (a .number) ≡ settledIf its (wordOf ss (a .number))
       pick (gone e f) = ap (stateAt ss′) f ∙ gone-settles its ∙ was none e
       pick (lost j e l f) = ap (stateAt ss′) f ∙ flying-settles (slotAt ss j .state) its (sym (on-slot j e) ∙ l) ∙ was (some j) e
-      pick (kept j e f s) =
+      pick (kept j e f) =
+          let s = stays-at (a .number) j f in
           ap (stateAt ss′) f ∙ ap (λ (x : Slot). stateWord (x .state)) (s .is) ∙ others-stay (slotAt ss j .state) its (sym (on-slot j e) ∙ s .lies)
           ∙ was (some j) e

@@ -16,6 +16,7 @@ use Rattle.rules.specs.Slots.{isUsed}
 use Rattle.rules.specs.Table.{slotAt}
 use Rattle.rules.specs.Create as create
 use Rattle.rules.specs.Create.{overlaps, patch, changed}
+use Rattle.rules.proofs.StaysSound.{Like}
 use Rattle.rules.proofs.Pins.{byte-shared}
 use Rattle.cut.specs.Changes.{Share}
 use Rattle.cut.specs.World.{State, waiting, Step}
@@ -26,10 +27,10 @@ use Rattle.demands.proofs.Log.{plain, Numbered, number-taken, Oldest, O
 use Rattle.demands.proofs.Views.{Within, inside-of}
 use Rattle.demands.proofs.Notes.{sender, mem-left, mem-right}
 use Rattle.demands.proofs.Lookup.{carries, carries-used}
-use Rattle.demands.proofs.Words.{isSoft, wordOf, isDone, isOut}
-use Rattle.demands.proofs.Linked.{Range, Has, Kin, range-still, overlaps-still}
+use Rattle.demands.proofs.Words.{roomed, wordOf, isDone, isOut}
+use Rattle.demands.proofs.Linked.{Range, Has, like-room, range-still, overlaps-still}
 use Rattle.demands.proofs.Radio.{Good}
-use Rattle.demands.proofs.Create.Slots.{Making, new, made, At, at, sound′, carries-old, new-slot, below, old-state, new-state, kin}
+use Rattle.demands.proofs.Create.Slots.{Making, new, made, At, at, sound′, carries-old, new-slot, below, old-state, new-state, like}
 use Rattle.demands.proofs.Create.Ties.{created}
 
 module _ {h : History} {c : create.Change} {j : ℕ} {k : Hold} (d : Making h c j k) where
@@ -45,8 +46,8 @@ module _ {h : History} {c : create.Change} {j : ℕ} {k : Hold} (d : Making h c 
   had : (a : Accepted) → List·Memᴰ a (h .accepted) → (i : ℕ) → Has ss′ a i → Has ss a i
   had a m i q = (q .0, sym (carries-old d (a .number) i (below d a m) (q .0)) ∙ q .1)
 
-  near : (a : Accepted) (i : ℕ) → Has ss a i → Kin (slotAt ss′ i) (slotAt ss i)
-  near a i q = kin d i (q .0) (carries-used ss (a .number) i (q .1))
+  near : (a : Accepted) (i : ℕ) → Has ss a i → Like (slotAt ss′ i) (slotAt ss i)
+  near a i q = like d i (q .0) (carries-used ss (a .number) i (q .1))
 
   -- the new change's slot is the new patch
   fresh-slot : (a : Accepted) → a ≡ new d → (i : ℕ) → Has ss′ a i → slotAt ss′ i ≡ patch (h .table) c k
@@ -71,14 +72,14 @@ module _ {h : History} {c : create.Change} {j : ℕ} {k : Hold} (d : Making h c 
   once-more n f y x (Earlier.here m) p q = let z : h .table .next ≡ n = p in omega (arith, below d x m)
   once-more n f y x (Earlier.there e) p q = f (let w = below d y (newer-in e) in omega arith) y x e p q
 
-  single′ : (i : ℕ) → i < slots → isSoft (slotAt ss′ i .state) ≡ true → Once (slotAt ss′ i .number) (new d ∷ h .accepted)
+  single′ : (i : ℕ) → i < slots → roomed (slotAt ss′ i .state) ≡ true → Once (slotAt ss′ i .number) (new d ∷ h .accepted)
   unfolding patch
   single′ i l e = once-more (slotAt ss′ i .number) (λ below. go below (at d i l))
     where
       go : slotAt ss′ i .number < h .table .next → At d i → Once (slotAt ss′ i .number) (h .accepted)
       go below (At.isNew q s) = let z : slotAt ss′ i .number ≡ h .table .next = ap (λ (x : Slot). x .number) s in absurd (omega arith)
       go below (At.isOld q s) =
-          subst (λ (n : ℕ). Once n (h .accepted)) (sym (s .kin .number)) (d .good .linked .single i l (sym (ap isSoft (s .kin .soft e)) ∙ e))
+          subst (λ (n : ℕ). Once n (h .accepted)) (sym (s .like .number)) (d .good .linked .single i l (like-room (s .like) e .0))
 
   -- what shares a byte with the new change overlaps the new patch
   told-new : (i : ℕ) → slotAt ss′ i ≡ patch (h .table) c k → (y : Accepted) → Share (plain y) (plain (new d)) → overlaps ss′ (y .change) i ≡ true

@@ -21,43 +21,39 @@ use Rattle.rules.specs.Create as create
 use Rattle.rules.specs.Create.{Lowest, FreeSlot, HoldOf, patch, turned, turnedState, acceptedSlot, acceptedSlots, accepted, changed, kept}
 use Rattle.rules.proofs.After.{accepted-at}
 use Rattle.rules.proofs.Granted.{CreatePassed}
-use Rattle.rules.proofs.StaysSound.{accepted-sound}
+use Rattle.rules.proofs.StaysSound.{Like, like-self, turned-like, accepted-sound}
 use Rattle.cut.specs.Changes.{Change}
 use Rattle.cut.specs.World.{waiting}
 use Rattle.cut.proofs.Facts.{same-or-other}
 use Rattle.demands.specs.History.{History, Accepted}
 use Rattle.demands.proofs.Log.{plain, number-below, of-log}
 use Rattle.demands.proofs.Lookup.{carries, slotOf, carries-used, carries-number, carries-of, at-slot, slot-carries, slot-same}
-use Rattle.demands.proofs.Words.{stateWord, isSoft, stateAt, wordOf}
-use Rattle.demands.proofs.Linked.{Kin, carries-was, carries-still}
+use Rattle.demands.proofs.Words.{stateWord, stateAt, wordOf}
+use Rattle.demands.proofs.Linked.{carries-was, carries-still}
 use Rattle.demands.proofs.Radio.{Good}
 
 -- a slot that a create finds in use: it may turn hard, and else stays
 pub record Stays (n s : Slot) : Type 0 where
-  pub kin : Kin n s
+  pub like : Like n s
   pub word : stateWord (n .state) ≡ stateWord (s .state)
   pub befores : n .befores ≡ s .befores
 
-stays-self : (s : Slot) → Stays s s
-stays-self s = record { kin = record { used = refl; soft = λ e. refl; number = refl; block = refl; offset = refl; len = refl }; word = refl; befores = refl }
-
 turned-stays : (h : Hold) (b : ℕ) (s : Slot) → Stays (turned h b s) s
-turned-stays (hold.Soft r) b s = stays-self s
-turned-stays hold.Hard b s = go (eqb (s .block) b)
+turned-stays (hold.Soft r) b s = record { like = like-self s; word = refl; befores = refl }
+turned-stays hold.Hard b s = record { like = turned-like hold.Hard b s; word = word (eqb (s .block) b); befores = same (eqb (s .block) b) }
   where
-    at : (u : rules.State)
-        → (isUsed (turnedState u) ≡ isUsed u) × (stateWord (turnedState u) ≡ stateWord u) × (isSoft (turnedState u) ≡ true → turnedState u ≡ u)
-    at state.Free = (refl, refl, λ e. refl)
-    at (state.Waiting h) = (refl, refl, λ e. absurd (clash e refl))
-    at (state.InFlight k) = (refl, refl, λ e. refl)
+    turned-word : (u : rules.State) → stateWord (turnedState u) ≡ stateWord u
+    turned-word state.Free = refl
+    turned-word (state.Waiting h) = refl
+    turned-word (state.InFlight k) = refl
 
-    go : (e : Bool) → Stays (cond e (withState (turnedState (s .state)) s) s) s
-    go true = record {
-      kin = record { used = at (s .state) .0; soft = at (s .state) .2; number = refl; block = refl; offset = refl; len = refl };
-      word = at (s .state) .1;
-      befores = refl;
-    }
-    go false = stays-self s
+    word : (its : Bool) → stateWord (cond its (withState (turnedState (s .state)) s) s .state) ≡ stateWord (s .state)
+    word true = turned-word (s .state)
+    word false = refl
+
+    same : (its : Bool) → cond its (withState (turnedState (s .state)) s) s .befores ≡ s .befores
+    same true = refl
+    same false = refl
 
 -- a create of change c that is granted slot j, hard or soft as k says
 pub record Making (h : History) (c : create.Change) (j : ℕ) (k : Hold) : Type 0 where
@@ -119,8 +115,8 @@ module _ {h : History} {c : create.Change} {j : ℕ} {k : Hold} (d : Making h c 
       go (isOld m s) = s
       go (isNew q s) = absurd (clash u (ap (λ (x : ℕ). used ss x) q ∙ d .lowest .holds))
 
-  pub kin : (i : ℕ) → i < slots → used ss i ≡ true → Kin (slotAt ss′ i) (slotAt ss i)
-  kin i l u = stays i l u .kin
+  pub like : (i : ℕ) → i < slots → used ss i ≡ true → Like (slotAt ss′ i) (slotAt ss i)
+  like i l u = stays i l u .like
 
   pub befores-stay : (i : ℕ) → i < slots → used ss i ≡ true → slotAt ss′ i .befores ≡ slotAt ss i .befores
   befores-stay i l u = stays i l u .befores
@@ -135,11 +131,11 @@ module _ {h : History} {c : create.Change} {j : ℕ} {k : Hold} (d : Making h c 
   pub carries-old : (n i : ℕ) → n < h .table .next → i < slots → carries ss′ n i ≡ carries ss n i
   unfolding patch
   carries-old n i l m =
-      same-bool (carries ss′ n i) (carries ss n i) (λ e. was e (at i m)) (λ e. carries-still ss ss′ i (kin i m (carries-used ss n i e)) n e)
+      same-bool (carries ss′ n i) (carries ss n i) (λ e. was e (at i m)) (λ e. carries-still ss ss′ i (like i m (carries-used ss n i e)) n e)
     where
       was : carries ss′ n i ≡ true → At i → carries ss n i ≡ true
       was e (isNew q s) = let z : h .table .next ≡ n = sym (ap (λ (x : Slot). x .number) s) ∙ carries-number ss′ n i e in absurd (omega arith)
-      was e (isOld q s) = carries-was ss ss′ i (s .kin) n e
+      was e (isOld q s) = carries-was ss ss′ i (s .like) n e
 
   pub slot-old : (n : ℕ) → n < h .table .next → slotOf ss′ n ≡ slotOf ss n
   slot-old n l = slot-same ss′ ss n (λ i m. carries-old n i l m)
@@ -157,8 +153,8 @@ module _ {h : History} {c : create.Change} {j : ℕ} {k : Hold} (d : Making h c 
       go : At i → slotAt ss′ i ≡ patch (h .table) c k
       go (isNew q s) = s
       go (isOld q s) =
-          let u : used ss i ≡ true = sym (s .kin .used) ∙ carries-used ss′ (h .table .next) i f in
-          let n : slotAt ss i .number ≡ h .table .next = sym (s .kin .number) ∙ carries-number ss′ (h .table .next) i f in
+          let u : used ss i ≡ true = sym (s .like .used) ∙ carries-used ss′ (h .table .next) i f in
+          let n : slotAt ss i .number ≡ h .table .next = sym (s .like .number) ∙ carries-number ss′ (h .table .next) i f in
           absurd (omega (arith, d .good .sound .number-most i l u))
 
   -- every older change has a number below the new one

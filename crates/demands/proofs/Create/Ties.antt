@@ -20,7 +20,7 @@ use Rattle.demands.specs.History.{History, Accepted}
 use Rattle.demands.proofs.Log.{plain, of-log}
 use Rattle.demands.proofs.Views.{view-splice}
 use Rattle.demands.proofs.Lookup.{slotOf, carries-used, carries-number, slot-carries}
-use Rattle.demands.proofs.Words.{stateAt, wordOf, Tied}
+use Rattle.demands.proofs.Words.{stateAt, wordOf, Tied, tie-stays}
 use Rattle.demands.proofs.Linked.{Has}
 use Rattle.demands.proofs.Radio.{Names, world}
 use Rattle.demands.proofs.Create.Slots.{Making, new, made, new-at, befores-stay, slot-old, slot-new, below, below-log, old-state, new-state}
@@ -75,15 +75,9 @@ module _ {h : History} {c : create.Change} {j : ℕ} {k : Hold} (d : Making h c 
       (tie-new (r .0) (r .1))
 
   old-ties : (m n : ℕ) → m < h .table .next → n < h .table .next → Tied ss m n → Tied ss′ m n
-  old-ties m n l q e =
-      let f = slot-carries ss m (e .mine) (e .mineIs) in
-      record {
-        mine = e .mine;
-        its = e .its;
-        mineIs = slot-old d m l ∙ e .mineIs;
-        itsIs = slot-old d n q ∙ e .itsIs;
-        before = ap (λ (x : ℕ). has x (e .its)) (befores-stay d (e .mine) (f .0) (carries-used ss m (e .mine) (f .1))) ∙ e .before;
-      }
+  old-ties m n l q =
+      tie-stays ss ss′ m n (slot-old d m l) (slot-old d n q) (λ i k e f before.
+      let c = slot-carries ss m i e in ap (λ (x : ℕ). has x k) (befores-stay d i (c .0) (carries-used ss m i (c .1))) ∙ before)
 
   asks : (y x : Change) (n : Names (new d ∷ h .accepted) y x) → List·Memᴰ (n .asker) (new d ∷ h .accepted) → Names (h .accepted) y x ⊎ (y ≡ plain (new d))
   asks y x n (List·Memᴰ·head e) = inr (sym (n .is) ∙ ap plain e)

@@ -15,7 +15,7 @@ use Rattle.rules.specs.declared.Hold.{Hold}
 use Rattle.rules.specs.declared.Hold.the-variants as hold
 use Rattle.rules.specs.declared.State.the-variants as state
 use Rattle.rules.specs.declared.Slot.{Slot}
-use Rattle.rules.specs.Sizes.{blockStart, rooms, roomStart}
+use Rattle.rules.specs.Sizes.{blockStart, slots, rooms, roomStart}
 use Rattle.rules.specs.Slots.{roomOf}
 use Rattle.rules.specs.Table.{slotAt, HasRoom}
 use Rattle.rules.specs.Create as create
@@ -25,9 +25,10 @@ use Rattle.demands.specs.History.{History}
 use Rattle.demands.proofs.Log.{plain}
 use Rattle.demands.proofs.Views.{view, view-in, inside-of}
 use Rattle.demands.proofs.Lookup.{slotOf, carries-used, slot-carries}
-use Rattle.demands.proofs.Words.{isSoft, softAt, roomAt, softOf, roomFor, soft-room}
+use Rattle.demands.proofs.Words.{roomed, roomedAt, roomAt, roomedOf, roomFor}
+use Rattle.demands.proofs.Linked.{room-stays}
 use Rattle.demands.proofs.Radio.{roomByte, room-byte, rooms-alike, oldByte}
-use Rattle.demands.proofs.Create.Slots.{Making, new, made, new-at, kin, slot-old, slot-new, below-log}
+use Rattle.demands.proofs.Create.Slots.{Making, new, made, new-at, like, slot-old, slot-new, below-log}
 
 -- the room taken was free
 room-taken : (ss : List Slot) (b : ℕ) (z : Hold) → HoldOf ss b z → (r : ℕ) → z ≡ hold.Soft r → (r < rooms) × FreeRoom ss r
@@ -73,7 +74,7 @@ module _ {h : History} {c : create.Change} {j : ℕ} {k : Hold} (d : Making h c 
       ∙ ap (λ (x : ℕ). getD (oldBytes (h .image) c) x 0) at-n
       ∙ part-in (h .image) (place c) (length (c .bytes)) n m
 
-  pub new-undo : softOf ss′ (h .table .next) ≡ true → (b i : ℕ) → covers (plain (new d)) b i ≡ true
+  pub new-undo : roomedOf ss′ (h .table .next) ≡ true → (b i : ℕ) → covers (plain (new d)) b i ≡ true
       → oldByte ss′ (made d .undo) (plain (new d)) i ≡ view (h .image) b i
   unfolding patch
   new-undo s b i e = go k refl (d .held)
@@ -81,14 +82,14 @@ module _ {h : History} {c : create.Change} {j : ℕ} {k : Hold} (d : Making h c 
       q : (b ≡ c .block) × (c .offset ≤ i) × (i < c .offset + length (c .bytes))
       q = inside-of (plain (new d)) b i e
 
-      soft-new : isSoft (state.Waiting k) ≡ true
-      soft-new = sym (ap (λ (x : Slot). isSoft (x .state)) (new-at d)) ∙ sym (ap (softAt ss′) (slot-new d)) ∙ s
+      soft-new : roomed (state.Waiting k) ≡ true
+      soft-new = sym (ap (λ (x : Slot). roomed (x .state)) (new-at d)) ∙ sym (ap (roomedAt ss′) (slot-new d)) ∙ s
 
       at-room : roomFor ss′ (h .table .next) ≡ roomOf (state.Waiting k)
       at-room = ap (roomAt ss′) (slot-new d) ∙ ap (λ (x : Slot). roomOf (x .state)) (new-at d)
 
       go : (z : Hold) → k ≡ z → HoldOf ss (c .block) z → oldByte ss′ (made d .undo) (plain (new d)) i ≡ view (h .image) b i
-      go hold.Hard y w = absurd (clash soft-new (ap (λ (x : Hold). isSoft (state.Waiting x)) y))
+      go hold.Hard y w = absurd (clash soft-new (ap (λ (x : Hold). roomed (state.Waiting x)) y))
       go (hold.Soft r) y w =
           let v = d .passed in
           let room : roomFor ss′ (h .table .next) ≡ r = at-room ∙ ap (λ (x : Hold). roomOf (state.Waiting x)) y in
@@ -101,28 +102,30 @@ module _ {h : History} {c : create.Change} {j : ℕ} {k : Hold} (d : Making h c 
           ∙ ap (λ (x : ℕ). getD (h .image) x 0) spot
           ∙ sym (view-in (h .image) b i (omega (arith, q .0, v .is-block)) (omega (arith, q .2, v .ends)))
 
-  pub old-undo : (x : Change) → List·Memᴰ x (map plain (h .accepted)) → softOf ss′ (x .number) ≡ true
-      → (softOf ss (x .number) ≡ true) × ((i : ℕ) → oldByte ss′ (made d .undo) x i ≡ oldByte ss (h .undo) x i)
-  old-undo x m s = go (slotOf ss (x .number)) refl (sym (ap (softAt ss′) same-slot) ∙ s)
-    where
-      same-slot : slotOf ss′ (x .number) ≡ slotOf ss (x .number)
-      same-slot = slot-old d (x .number) (below-log d x m)
+  -- the room of an older change is not the one taken, and its bytes stay
+  old-room : (i : ℕ) → i < slots → roomed (slotAt ss i .state) ≡ true → (n : ℕ)
+      → roomByte (made d .undo) (roomOf (slotAt ss i .state)) n ≡ roomByte (h .undo) (roomOf (slotAt ss i .state)) n
+  old-room i l soft =
+      let room : ℕ = roomOf (slotAt ss i .state) in
+      let has-room : HasRoom ss i room = soft in
+      let low : room < rooms = d .good .sound .room-most i room l has-room in
+      let not-taken : k ≡ hold.Soft room → ⊥ = λ z. room-taken ss (c .block) k (d .held) room z .1 i l has-room in
+      rooms-alike (made d .undo) (h .undo) room (λ n o. other-room room n low o not-taken)
 
-      go : (p : Option ℕ) → slotOf ss (x .number) ≡ p → softAt ss′ (slotOf ss (x .number)) ≡ true
-          → (softOf ss (x .number) ≡ true) × ((i : ℕ) → oldByte ss′ (made d .undo) x i ≡ oldByte ss (h .undo) x i)
-      go none e u = absurd (clash u (ap (softAt ss′) e))
-      go (some i) e u =
-          let f = slot-carries ss (x .number) i e in
-          let soft′ : isSoft (slotAt ss′ i .state) ≡ true = sym (ap (softAt ss′) e) ∙ u in
-          let same : slotAt ss′ i .state ≡ slotAt ss i .state = kin d i (f .0) (carries-used ss (x .number) i (f .1)) .soft soft′ in
-          let soft : isSoft (slotAt ss i .state) ≡ true = sym (ap isSoft same) ∙ soft′ in
-          let room : ℕ = roomOf (slotAt ss i .state) in
-          let has-room : HasRoom ss i room = soft-room ss i soft in
-          let low : room < rooms = d .good .sound .room-most i room (f .0) has-room in
-          let not-taken : k ≡ hold.Soft room → ⊥ = λ z. room-taken ss (c .block) k (d .held) room z .1 i (f .0) has-room in
-          let at-room : roomFor ss′ (x .number) ≡ room = ap (roomAt ss′) (same-slot ∙ e) ∙ ap roomOf same in (
-            ap (softAt ss) e ∙ soft,
-            λ n. ap (λ (q : ℕ). roomByte (made d .undo) q (n - x .offset)) at-room
-                ∙ rooms-alike (made d .undo) (h .undo) room (λ l o. other-room room l low o not-taken) (n - x .offset)
-                ∙ sym (ap (λ (q : ℕ). roomByte (h .undo) q (n - x .offset)) (ap (roomAt ss) e)),
-          )
+  pub old-undo : (x : Change) → List·Memᴰ x (map plain (h .accepted)) → roomedOf ss′ (x .number) ≡ true
+      → (roomedOf ss (x .number) ≡ true) × ((i : ℕ) → oldByte ss′ (made d .undo) x i ≡ oldByte ss (h .undo) x i)
+  old-undo x m s =
+      (room .0, λ n. ap (λ (q : ℕ). roomByte (made d .undo) q (n - x .offset)) (room .1) ∙ bytes (slotOf ss (x .number)) refl (room .0) (n - x .offset))
+    where
+      room : (roomedOf ss (x .number) ≡ true) × (roomFor ss′ (x .number) ≡ roomFor ss (x .number))
+      room =
+          room-stays ss ss′ (x .number) (slot-old d (x .number) (below-log d x m))
+          (λ i q. let f = slot-carries ss (x .number) i q in like d i (f .0) (carries-used ss (x .number) i (f .1))) s
+
+      bytes : (p : Option ℕ) → slotOf ss (x .number) ≡ p → roomedAt ss (slotOf ss (x .number)) ≡ true → (n : ℕ)
+          → roomByte (made d .undo) (roomFor ss (x .number)) n ≡ roomByte (h .undo) (roomFor ss (x .number)) n
+      bytes none e u n = absurd (clash u (ap (roomedAt ss) e))
+      bytes (some i) e u n =
+          ap (λ (p : Option ℕ). roomByte (made d .undo) (roomAt ss p) n) e
+          ∙ old-room i (slot-carries ss (x .number) i e .0) (sym (ap (roomedAt ss) e) ∙ u) n
+          ∙ sym (ap (λ (p : Option ℕ). roomByte (h .undo) (roomAt ss p) n) e)

@@ -18,7 +18,6 @@ use Rattle.rules.specs.Sizes.{blockBytes, blockStart, slots, rooms, roomStart}
 use Rattle.rules.specs.Slots.{roomOf}
 use Rattle.rules.specs.Table.{slotAt}
 use Rattle.rules.specs.Write.{leftBehind, takenBack, backNumber, backDown, handedOut}
-use Rattle.rules.proofs.Words.{waiting-used}
 use Rattle.rules.proofs.TakenBack.{number-nowhere, number-there}
 use Rattle.rules.proofs.Pins.{length-back-number, length-handed-out}
 use Rattle.cut.specs.Changes.{Store, Change, covers}
@@ -26,15 +25,16 @@ use Rattle.cut.specs.World.{left, putBack, takeBack}
 use Rattle.cut.proofs.Facts.{carry-inside}
 use Rattle.demands.specs.History.{History, Accepted}
 use Rattle.demands.specs.Demand3.{Earlier, written}
+use Rattle.rules.proofs.Words.{waiting-used}
 use Rattle.demands.proofs.Log.{plain, Numbered, first-least, once-oldest}
 use Rattle.demands.proofs.Views.{view, view-in, view-past, covers-of, inside-of}
 use Rattle.demands.proofs.Notes.{Whole, whole, view-written}
 use Rattle.demands.proofs.Lookup.{slotOf, carries-used, carries-number, carries-of, slot-carries, nowhere}
-use Rattle.demands.proofs.Words.{roomAt, soft-room}
+use Rattle.demands.proofs.Words.{roomAt}
 use Rattle.demands.proofs.Linked.{Range, Has}
 use Rattle.demands.proofs.Radio.{roomByte, room-byte, oldByte, world}
 use Rattle.demands.proofs.Write.Slots.{Sending, writ, goes}
-use Rattle.demands.proofs.Write.Left.{behind, isLeft, behind-waits, behind-soft, left-slot, left-nowhere, left-one, joined-stays}
+use Rattle.demands.proofs.Write.Left.{behind, isLeft, behind-waits, behind-roomed, left-slot, left-nowhere, left-one, joined-not-left}
 
 -- the part of a log that starts at some place of it
 record Since (l log : List Accepted) : Type 0 where
@@ -64,7 +64,7 @@ module _ {h : History} {b s : ℕ} (d : Sending h b s) where
 
     room-low : room < rooms
     unfolding room
-    room-low = d .good .sound .room-most j (roomOf (slotAt ss j .state)) (mine .0) (soft-room ss j (behind-soft d j (mine .0) e))
+    room-low = d .good .sound .room-most j (roomOf (slotAt ss j .state)) (mine .0) (behind-roomed d j (mine .0) e)
 
     old : List ℕ
     old = part (h .undo) (roomStart room) (slotAt ss j .len)
@@ -181,7 +181,7 @@ module _ {h : History} {b s : ℕ} (d : Sending h b s) where
       ∙ all-back rest q (omega arith) (since-older f) (taken a m xs st size looks) (put a m xs st size looks)
       (length-back-number ss (behind d) (h .undo) (a .number) slots xs ∙ size) (one-back a m xs st size looks) i k
   all-back n (Numbered.joins {older = l} a x t p r q) e f xs st size looks i k =
-      let stays = joined-stays d a x (f .member a (List·Memᴰ·head refl)) (f .order a x (Earlier.here t)) p in
+      let stays = joined-not-left d a x (f .member a (List·Memᴰ·head refl)) (f .order a x (Earlier.here t)) p in
       all-back n q e (since-older f) xs st size looks i k
       ∙ sym
       (ap (λ (v : Bool). takeBack (isLeft d) (oldByte ss (h .undo)) (map plain l) (cond v (putBack (oldByte ss (h .undo)) (plain a) st) st) b i) stays)

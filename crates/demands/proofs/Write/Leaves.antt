@@ -13,18 +13,18 @@ use Rattle.rules.specs.declared.Slot.{Slot}
 use Rattle.rules.specs.Sizes.{slots}
 use Rattle.rules.specs.Table.{slotAt, used}
 use Rattle.rules.specs.Create.{isIn}
-use Rattle.rules.proofs.Words.{waiting-used}
 use Rattle.cut.specs.World.{Step}
 use Rattle.cut.proofs.Core.{step-keeps}
 use Rattle.demands.specs.History.{History, Accepted, Sent}
 use Rattle.demands.specs.Demand3.{sentIn, timesIn, timesSent}
+use Rattle.rules.proofs.Words.{waiting-used}
 use Rattle.demands.proofs.Log.{plain, number-taken}
 use Rattle.demands.proofs.Notes.{Whole, not-in-none, not-sent-none, times-both}
 use Rattle.demands.proofs.Lookup.{slotOf, carries-number, carries-of, at-slot, slot-carries}
 use Rattle.demands.proofs.Words.{wordOf, isDone, isOut}
 use Rattle.demands.proofs.Linked.{linked-kept}
 use Rattle.demands.proofs.Radio.{Good}
-use Rattle.demands.proofs.Write.Slots.{Sending, writ, gone, may, some-goes, waits, sound′, kin, goAt, goes, go-state, stay-state, members}
+use Rattle.demands.proofs.Write.Slots.{Sending, writ, gone, may, some-goes, waits, sound′, like, goAt, goes, go-state, stay-state, members}
 use Rattle.demands.proofs.Write.Back.{whole-writ}
 use Rattle.demands.proofs.Write.Sends.{sends}
 use Rattle.demands.proofs.Write.Numbers.{number-in, in-numbers, number-once}
@@ -120,7 +120,7 @@ module _ {h : History} {b s : ℕ} (d : Sending h b s) where
     sound = sound′ d;
     numbers = d .good .numbers;
     older = d .good .older;
-    linked = linked-kept ss ss′ (h .accepted) (λ i l u. kin d i l) (d .good .linked);
+    linked = linked-kept ss ss′ (h .accepted) (λ i l u. like d i l) (d .good .linked);
     within = d .good .within;
     image-whole = d .good .image-whole;
     opening-whole = d .good .opening-whole;

@@ -1,7 +1,7 @@
 -- What a granted write leaves behind: each such patch has a room, so its number stands for one change.
 use Prim.Native.Nat.{ℕ, _<_}
 use mathlib.Core.Path.{_≡_, refl, sym, _∙_, ap, subst}
-use mathlib.Core.Bool.{Bool, true, false, _&&_, not}
+use mathlib.Core.Bool.{Bool, true, false, _&&_, not, and-false}
 use mathlib.Core.List.{List, List·Memᴰ}
 use mathlib.Core.Option.{Option, none, some}
 use mathlib.Core.Logic.{⊎-elim}
@@ -21,7 +21,7 @@ use Rattle.demands.specs.History.{History, Accepted}
 use Rattle.demands.specs.Demand3.{Earlier}
 use Rattle.demands.proofs.Log.{plain, Once}
 use Rattle.demands.proofs.Lookup.{slotOf, carries-number, slot-carries}
-use Rattle.demands.proofs.Words.{isSoft, stateAt, softOf, softAt, same-word, not-hard}
+use Rattle.demands.proofs.Words.{roomed, stateAt, roomedOf, roomedAt, same-word, not-hard}
 use Rattle.demands.proofs.Radio.{world}
 use Rattle.demands.proofs.Write.Slots.{Sending, may, some-goes, goAt, goes}
 
@@ -44,8 +44,8 @@ module _ {h : History} {b s : ℕ} (d : Sending h b s) where
       (v .0, eqb-true (slotAt ss j .block) b (v .1), not-true (has s j) (w .1))
 
   -- all hard ones go, so it has a room
-  pub behind-soft : (j : ℕ) → j < slots → behind j ≡ true → isSoft (slotAt ss j .state) ≡ true
-  behind-soft j l e =
+  pub behind-roomed : (j : ℕ) → j < slots → behind j ≡ true → roomed (slotAt ss j .state) ≡ true
+  behind-roomed j l e =
       let w = behind-waits j e in
       let some = some-goes d in
       let at-block = eq-eqb (slotAt ss j .block) b (w .1) in
@@ -70,26 +70,23 @@ module _ {h : History} {b s : ℕ} (d : Sending h b s) where
 
   pub left-nowhere : (a : Accepted) → slotOf ss (a .number) ≡ none → isLeft (plain a) ≡ false
   unfolding left cut.isWaiting
-  left-nowhere a q = ap (λ (p : Option ℕ). eqb (a .change .block) b && (cut.isWaiting (stateAt ss p) && not (goAt s p))) q ∙ none-of (eqb (a .change .block) b)
-    where
-      none-of : (x : Bool) → (x && false) ≡ false
-      none-of true = refl
-      none-of false = refl
+  left-nowhere a q =
+      ap (λ (p : Option ℕ). eqb (a .change .block) b && (cut.isWaiting (stateAt ss p) && not (goAt s p))) q ∙ and-false (eqb (a .change .block) b)
 
   -- it is the one change of its number, and has a room
-  pub left-one : (a : Accepted) → List·Memᴰ a (h .accepted) → isLeft (plain a) ≡ true → (softOf ss (a .number) ≡ true) × Once (a .number) (h .accepted)
+  pub left-one : (a : Accepted) → List·Memᴰ a (h .accepted) → isLeft (plain a) ≡ true → (roomedOf ss (a .number) ≡ true) × Once (a .number) (h .accepted)
   left-one a m e = go (slotOf ss (a .number)) refl
     where
-      go : (p : Option ℕ) → slotOf ss (a .number) ≡ p → (softOf ss (a .number) ≡ true) × Once (a .number) (h .accepted)
+      go : (p : Option ℕ) → slotOf ss (a .number) ≡ p → (roomedOf ss (a .number) ≡ true) × Once (a .number) (h .accepted)
       go none q = absurd (clash e (left-nowhere a q))
       go (some j) q =
           let c = slot-carries ss (a .number) j q in
-          let soft = behind-soft j (c .0) (sym (left-slot a m j q) ∙ e) in
-          (ap (softAt ss) q ∙ soft, subst (λ (n : ℕ). Once n (h .accepted)) (carries-number ss (a .number) j (c .1)) (d .good .linked .single j (c .0) soft))
+          let soft = behind-roomed j (c .0) (sym (left-slot a m j q) ∙ e) in
+          (ap (roomedAt ss) q ∙ soft, subst (λ (n : ℕ). Once n (h .accepted)) (carries-number ss (a .number) j (c .1)) (d .good .linked .single j (c .0) soft))
 
-  pub left-soft : (a : Accepted) → List·Memᴰ a (h .accepted) → isLeft (plain a) ≡ true → softOf ss (a .number) ≡ true
-  left-soft a m e = left-one a m e .0
+  pub left-roomed : (a : Accepted) → List·Memᴰ a (h .accepted) → isLeft (plain a) ≡ true → roomedOf ss (a .number) ≡ true
+  left-roomed a m e = left-one a m e .0
 
   -- a change that has joined another is not left behind
-  pub joined-stays : (a x : Accepted) → List·Memᴰ a (h .accepted) → Earlier (h .accepted) a x → a .number ≡ x .number → isLeft (plain a) ≡ false
-  joined-stays a x m e n = ⊎-elim (λ f. absurd (left-one a m f .1 a x e refl (sym n))) (λ f. f) (true-or-false (isLeft (plain a)))
+  pub joined-not-left : (a x : Accepted) → List·Memᴰ a (h .accepted) → Earlier (h .accepted) a x → a .number ≡ x .number → isLeft (plain a) ≡ false
+  joined-not-left a x m e n = ⊎-elim (λ f. absurd (left-one a m f .1 a x e refl (sym n))) (λ f. f) (true-or-false (isLeft (plain a)))

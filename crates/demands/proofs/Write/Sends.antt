@@ -3,13 +3,10 @@ use Prim.Native.Nat.{ℕ, _-_}
 use mathlib.Core.Path.{_≡_, refl, sym, _∙_, ap}
 use mathlib.Core.Bool.{true}
 use mathlib.Core.List.{List, _∷_, _++_}
-use mathlib.Core.Option.{Option, none, some}
 use mathlib.Core.Logic.{_≢_, inr, ⊎-elim}
 use Rattle.masks.specs.Sets.{has}
-use Rattle.masks.proofs.Decided.{clash, true-or-false}
+use Rattle.masks.proofs.Decided.{true-or-false}
 use Rattle.rules.specs.declared.Slot.{Slot}
-use Rattle.rules.specs.Slots.{roomOf}
-use Rattle.rules.specs.Table.{slotAt}
 use Rattle.cut.specs.Changes.{Change, covers}
 use Rattle.cut.specs.World.{waiting, inFlight, left, Sends}
 use Rattle.cut.proofs.Facts.{carry-outside}
@@ -19,10 +16,11 @@ use Rattle.demands.proofs.Log.{on-log}
 use Rattle.demands.proofs.Views.{view, inside-of}
 use Rattle.demands.proofs.Notes.{whole, view-written}
 use Rattle.demands.proofs.Lookup.{slotOf, slot-carries}
-use Rattle.demands.proofs.Words.{isSoft, softAt, roomAt, wordOf, softOf, roomFor, Tied}
+use Rattle.demands.proofs.Words.{wordOf, roomedOf, Tied, tie-stays}
+use Rattle.demands.proofs.Linked.{room-stays}
 use Rattle.demands.proofs.Radio.{roomByte, oldByte, world, none-out}
-use Rattle.demands.proofs.Write.Slots.{Sending, writ, gone, may, goAt, goes, kin, befores-stay, slot-here, go-state, stay-state, members}
-use Rattle.demands.proofs.Write.Left.{left-soft}
+use Rattle.demands.proofs.Write.Slots.{Sending, writ, gone, may, goAt, goes, like, befores-stay, slot-here, go-state, stay-state, members}
+use Rattle.demands.proofs.Write.Left.{left-roomed}
 use Rattle.demands.proofs.Write.Back.{whole-writ, bytes}
 
 module _ {h : History} {b s : ℕ} (d : Sending h b s) where
@@ -34,31 +32,20 @@ module _ {h : History} {b s : ℕ} (d : Sending h b s) where
 
   go-tied : (m n : ℕ) → goAt s (slotOf ss m) ≡ true → Tied ss m n → goAt s (slotOf ss n) ≡ true
   go-tied m n e t =
-      ap (goAt s) (t .itsIs)
-      ∙ may d .closed (t .mine) (t .its) (sym (ap (goAt s) (t .mineIs)) ∙ e) (slot-carries ss n (t .its) (t .itsIs) .0) (t .before)
+      let goes = sym (ap (goAt s) (t .mineIs)) ∙ e in
+      ap (goAt s) (t .itsIs) ∙ may d .closed (t .mine) (t .its) goes (slot-carries ss n (t .its) (t .itsIs) .0) (t .before)
 
-  old-undo : (x : Change) → softOf ss′ (x .number) ≡ true
-      → (softOf ss (x .number) ≡ true) × ((i : ℕ) → oldByte ss′ (h .undo) x i ≡ oldByte ss (h .undo) x i)
-  old-undo x e = go (slotOf ss (x .number)) refl (sym (ap (softAt ss′) (slot-here d (x .number))) ∙ e)
-    where
-      go : (p : Option ℕ) → slotOf ss (x .number) ≡ p → softAt ss′ (slotOf ss (x .number)) ≡ true
-          → (softOf ss (x .number) ≡ true) × ((i : ℕ) → oldByte ss′ (h .undo) x i ≡ oldByte ss (h .undo) x i)
-      go none q f = absurd (clash f (ap (softAt ss′) q))
-      go (some j) q f =
-          let soft′ : isSoft (slotAt ss′ j .state) ≡ true = sym (ap (softAt ss′) q) ∙ f in
-          let same : slotAt ss′ j .state ≡ slotAt ss j .state = kin d j (slot-carries ss (x .number) j q .0) .soft soft′ in
-          let room : roomFor ss′ (x .number) ≡ roomFor ss (x .number) =
-          ap (roomAt ss′) (slot-here d (x .number) ∙ q) ∙ ap roomOf same ∙ sym (ap (roomAt ss) q) in
-          (ap (softAt ss) q ∙ sym (ap isSoft same) ∙ soft′, λ i. ap (λ (r : ℕ). roomByte (h .undo) r (i - x .offset)) room)
+  old-undo : (x : Change) → roomedOf ss′ (x .number) ≡ true
+      → (roomedOf ss (x .number) ≡ true) × ((i : ℕ) → oldByte ss′ (h .undo) x i ≡ oldByte ss (h .undo) x i)
+  old-undo x e =
+      let n = x .number in
+      let r = room-stays ss ss′ n (slot-here d n) (λ j q. like d j (slot-carries ss n j q .0)) e in
+      (r .0, λ i. ap (λ (q : ℕ). roomByte (h .undo) q (i - x .offset)) (r .1))
 
   old-ties : (m n : ℕ) → Tied ss m n → Tied ss′ m n
-  old-ties m n t = record {
-    mine = t .mine;
-    its = t .its;
-    mineIs = slot-here d m ∙ t .mineIs;
-    itsIs = slot-here d n ∙ t .itsIs;
-    before = ap (λ (x : ℕ). has x (t .its)) (befores-stay d (t .mine) (slot-carries ss m (t .mine) (t .mineIs) .0)) ∙ t .before;
-  }
+  old-ties m n =
+      tie-stays ss ss′ m n (slot-here d m) (slot-here d n)
+      (λ i j e f before. ap (λ (x : ℕ). has x j) (befores-stay d i (slot-carries ss m i e .0)) ∙ before)
 
   others : (e i : ℕ) → e ≢ b
       → view (written (writ d ∷ (h .inFlight ++ h .landed)) (h .opening)) e i ≡ view (written (h .inFlight ++ h .landed) (h .opening)) e i
@@ -74,7 +61,7 @@ module _ {h : History} {b s : ℕ} (d : Sending h b s) where
     log = refl;
     goes = on-log (h .accepted) (λ x. goes d x ≡ true → (wordOf ss (x .number) ≡ waiting) × (x .block ≡ b)) (members d);
     goTied = λ y x my mx e t. inr (go-tied (y .number) (x .number) e t);
-    leftKept = on-log (h .accepted) (λ x. left b (goes d) (world h) x ≡ true → softOf ss (x .number) ≡ true) (left-soft d);
+    leftKept = on-log (h .accepted) (λ x. left b (goes d) (world h) x ≡ true → roomedOf ss (x .number) ≡ true) (left-roomed d);
     free = on-log (h .accepted) (λ x. x .block ≡ b → wordOf ss (x .number) ≢ inFlight) (none-out h (d .good) b (d .passed .none-flies));
     bytes = bytes d;
     others = others;

@@ -14,32 +14,22 @@ use Rattle.rules.specs.Sizes.{slots}
 use Rattle.rules.specs.Slots.{isWaiting}
 use Rattle.rules.specs.Table.{slotAt, Sound}
 use Rattle.rules.specs.Write.{MayGo, Largest, handedOut, sentState, sentSlot, sentSlots, sent}
-use Rattle.rules.proofs.Words.{sent-used}
 use Rattle.rules.proofs.After.{sent-at}
 use Rattle.rules.proofs.Granted.{WritePassed}
-use Rattle.rules.proofs.StaysSound.{sent-sound}
+use Rattle.rules.proofs.StaysSound.{Like, sent-like, sent-sound}
 use Rattle.cut.specs.Changes.{Change}
 use Rattle.cut.specs.World.{waiting, inFlight}
 use Rattle.demands.specs.History.{History, Accepted, Sent, numbersBelow}
 use Rattle.demands.proofs.Log.{plain}
 use Rattle.demands.proofs.Lookup.{carries, slotOf, slot-carries, slot-same}
-use Rattle.demands.proofs.Words.{stateWord, isSoft, stateAt, wordOf, waiting-word}
-use Rattle.demands.proofs.Linked.{Kin, carries-was, carries-still}
+use Rattle.demands.proofs.Words.{stateWord, stateAt, wordOf, waiting-word}
+use Rattle.demands.proofs.Linked.{carries-was, carries-still}
 use Rattle.demands.proofs.Radio.{Good}
 
 sent-word : (u : rules.State) → isWaiting u ≡ true → stateWord (sentState u) ≡ inFlight
 sent-word state.Free e = absurd (clash e refl)
 sent-word (state.Waiting h) e = refl
 sent-word (state.InFlight k) e = absurd (clash e refl)
-
-sent-hard : (u : rules.State) → isSoft (sentState u) ≡ true → sentState u ≡ u
-sent-hard state.Free e = refl
-sent-hard (state.Waiting h) e = absurd (clash e refl)
-sent-hard (state.InFlight k) e = refl
-
-sent-kin : (goes : Bool) (s : Slot) → Kin (sentSlot goes s) s
-sent-kin true s = record { used = sent-used (s .state); soft = sent-hard (s .state); number = refl; block = refl; offset = refl; len = refl }
-sent-kin false s = record { used = refl; soft = λ e. refl; number = refl; block = refl; offset = refl; len = refl }
 
 sent-befores : (goes : Bool) (s : Slot) → sentSlot goes s .befores ≡ s .befores
 sent-befores true s = refl
@@ -102,8 +92,8 @@ module _ {h : History} {b s : ℕ} (d : Sending h b s) where
   at-stays : (i : ℕ) → i < slots → has s i ≡ false → slotAt ss′ i ≡ slotAt ss i
   at-stays i l e = sent-at ss s i l ∙ ap (λ (goes : Bool). sentSlot goes (slotAt ss i)) e
 
-  pub kin : (i : ℕ) → i < slots → Kin (slotAt ss′ i) (slotAt ss i)
-  kin i l = subst (λ (n : Slot). Kin n (slotAt ss i)) (sym (sent-at ss s i l)) (sent-kin (has s i) (slotAt ss i))
+  pub like : (i : ℕ) → i < slots → Like (slotAt ss′ i) (slotAt ss i)
+  like i l = subst (λ (n : Slot). Like n (slotAt ss i)) (sym (sent-at ss s i l)) (sent-like (has s i) (slotAt ss i))
 
   pub befores-stay : (i : ℕ) → i < slots → slotAt ss′ i .befores ≡ slotAt ss i .befores
   befores-stay i l = ap (λ (x : Slot). x .befores) (sent-at ss s i l) ∙ sent-befores (has s i) (slotAt ss i)
@@ -113,7 +103,7 @@ module _ {h : History} {b s : ℕ} (d : Sending h b s) where
   -- a number keeps its slot
   pub slot-here : (n : ℕ) → slotOf ss′ n ≡ slotOf ss n
   slot-here n =
-      slot-same ss′ ss n (λ i l. same-bool (carries ss′ n i) (carries ss n i) (carries-was ss ss′ i (kin i l) n) (carries-still ss ss′ i (kin i l) n))
+      slot-same ss′ ss n (λ i l. same-bool (carries ss′ n i) (carries ss n i) (carries-was ss ss′ i (like i l) n) (carries-still ss ss′ i (like i l) n))
 
   -- does the change go?
   abbrev pub goes : Change → Bool
