@@ -54,7 +54,16 @@ pub extern "C" fn board_create(
     number: &mut u32,
     hold: &mut u32,
 ) -> u32
-    ensures { λ r. ⌜ CreateCall (now (table .entry)) (now (image .entry)) (now (undo .entry)) (record { block = block; offset = offset; bytes = now (bytes .entry); named = now (named .entry) }) (record { refusal = r; number = now (number .exit); hold = now (hold .exit); table = now (table .exit); image = now (image .exit); undo = now (undo .exit) }) ⌝ }
+    ensures { λ r. ⌜ CreateCall (now (table .entry)) (now (image .entry)) (now (undo .entry))
+        (record { block = block; offset = offset; bytes = now (bytes .entry); named = now (named .entry) })
+        (record {
+          refusal = r;
+          number = now (number .exit);
+          hold = now (hold .exit);
+          table = now (table .exit);
+          image = now (image .exit);
+          undo = now (undo .exit);
+        }) ⌝ }
 {
     *number = 0;
     *hold = 0;
@@ -91,7 +100,15 @@ pub extern "C" fn board_write(
     block: u32,
     set: &mut u64,
 ) -> u32
-    ensures { λ r. ⌜ WriteCall (now (table .entry)) (now (image .entry)) (now (undo .entry)) (now (handed .entry)) block (record { refusal = r; set = now (set .exit); table = now (table .exit); image = now (image .exit); undo = now (undo .exit); handed = now (handed .exit) }) ⌝ }
+    ensures { λ r. ⌜ WriteCall (now (table .entry)) (now (image .entry)) (now (undo .entry)) (now (handed .entry)) block
+        (record {
+          refusal = r;
+          set = now (set .exit);
+          table = now (table .exit);
+          image = now (image .exit);
+          undo = now (undo .exit);
+          handed = now (handed .exit);
+        }) ⌝ }
 {
     *set = 0;
     if !is_table(table) {

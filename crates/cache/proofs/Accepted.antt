@@ -16,14 +16,15 @@ use Rattle.rules.specs.Table.{Table, Sound}
 use Rattle.rules.specs.Create.{Change, Lowest, FreeSlot, HoldOf, accepted, changed, kept}
 use Rattle.rules.specs.Refusals.{Case, case, First, WrongSize, Unsound, NoBlock, WrongLength, PastEnd, NamesUnissued, NoSlot, NoRoom, createCases}
 use Rattle.rules.specs.Calls.{Creates, createRefused, createGranted}
+use Rattle.rules.proofs.Granted.{CreatePassed, issued-holds}
 use Rattle.rules.proofs.Cases.{holds, passes, none-holds}
 use Rattle.rules.proofs.Outcomes.{refuses, grants}
-use Rattle.cache.specs.Judged.{Judged, CreateReady, keptAt}
+use Rattle.cache.specs.Judged.{Judged, keptAt}
 use Rattle.cache.proofs.Sent.{judged}
 
 module _ (t : Table) (image undo : List ℕ) (c : Change) where
   abbrev Create-judged : ℕ → Type 0
-  Create-judged = Judged (createCases t image undo c) (CreateReady t image undo c)
+  Create-judged = Judged (createCases t image undo c) (CreatePassed t image undo c)
 
   pub create-wrong-size : (WrongSize imageBytes image ⊎ WrongSize undoBytes undo) → Create-judged 1
   create-wrong-size w = judged 1 (λ e. omega arith) (holds w)
@@ -92,7 +93,7 @@ module _ (t : Table) (image undo : List ℕ) (c : Change) where
             len-most = p .most;
             ends = p .ends;
             few-named = few;
-            issued = issued;
+            issued = issued-holds t c issued;
             last = omega (arith, n, p .sound .next-most);
           };
         }
@@ -100,13 +101,13 @@ module _ (t : Table) (image undo : List ℕ) (c : Change) where
   pub create-refused : (k : ℕ) → (k ≡ 0 → ⊥) → Create-judged k → Creates t image undo c (createRefused t image undo k)
   create-refused k d j = refuses k (j .refused d) refl d
 
-  module _ (r : CreateReady t image undo c) where
+  module _ (r : CreatePassed t image undo c) where
     -- past the early refusals only 9 and 10 are left
     late : {k : ℕ} → First (case 9 (NoSlot (t .slots)) ∷ case 10 (NoRoom (t .slots) c) ∷ []) k → First (createCases t image undo c) k
     late f =
         past5
         (record { image-whole = r .image-whole; undo-whole = r .undo-whole; sound = r .sound; is-block = r .is-block; least = λ e. omega (arith, r .len-least); most = r .len-most; ends = r .ends })
-        (passes (λ m. omega (arith, r .few-named)) (passes (r .issued) (passes (λ m. omega (arith, r .last)) f)))
+        (passes (λ m. omega (arith, r .few-named)) (passes (λ u. u .2 (r .issued (u .0) (u .1))) (passes (λ m. omega (arith, r .last)) f)))
 
     pub create-no-slot : NoSlot (t .slots) → Creates t image undo c (createRefused t image undo 9)
     create-no-slot n = refuses 9 (late (holds n)) refl (λ e. omega arith)

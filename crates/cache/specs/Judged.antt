@@ -1,5 +1,5 @@
 -- What create and write know once their first refusals are judged. Private functions judge them; no public promise cites this file.
-use Prim.Native.Nat.{ℕ, _+_, _≤_, _<_}
+use Prim.Native.Nat.{ℕ, _+_, _<_}
 use mathlib.Core.Path.{_≡_}
 use mathlib.Core.List.{List}
 use lib.ListN.{length}
@@ -7,28 +7,15 @@ use Rattle.spans.specs.Spans.{splice, part}
 use Rattle.rules.specs.declared.Hold.{Hold}
 use Rattle.rules.specs.declared.Hold.the-variants as hold
 use Rattle.rules.specs.declared.Slot.{Slot}
-use Rattle.rules.specs.Sizes.{roomStart, blocks, blockBytes, imageBytes, undoBytes, mostBytes, mostNamed, lastNumber}
+use Rattle.rules.specs.Sizes.{roomStart, blocks, blockBytes, imageBytes, undoBytes}
 use Rattle.rules.specs.Table.{Table, Sound, withSlots, withNext}
-use Rattle.rules.specs.Create.{Change, acceptedSlots}
-use Rattle.rules.specs.Refusals.{Case, First, NamesUnissued, Flies, Waits}
+use Rattle.rules.specs.Create.{acceptedSlots}
+use Rattle.rules.specs.Refusals.{Case, First, Flies, Waits}
 
 -- k is 0 and the call is ready to go on, or it is the first of the call's cases that holds
 pub record Judged (cases : List Case) (Ready : Type 0) (k : ℕ) : Type 0 where
   pub refused : (k ≡ 0 → ⊥) → First cases k
   pub ready : k ≡ 0 → Ready
-
--- none of 1 to 8 holds of a create
-pub record CreateReady (t : Table) (image undo : List ℕ) (c : Change) : Type 0 where
-  pub image-whole : length image ≡ imageBytes
-  pub undo-whole : length undo ≡ undoBytes
-  pub sound : Sound t
-  pub is-block : c .block < blocks
-  pub len-least : 1 ≤ length (c .bytes)
-  pub len-most : length (c .bytes) ≤ mostBytes
-  pub ends : c .offset + length (c .bytes) ≤ blockBytes
-  pub few-named : length (c .named) ≤ mostNamed
-  pub issued : NamesUnissued t c → ⊥
-  pub last : t .next ≤ lastNumber
 
 -- none of 1 to 12 holds of a write
 pub record WriteReady (t : Table) (image undo block : List ℕ) (b : ℕ) : Type 0 where

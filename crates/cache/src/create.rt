@@ -8,7 +8,8 @@ ghost use Rattle.rules.specs.Create.{patch};
 ghost use Rattle.rules.specs.Refusals.{createCases};
 ghost use Rattle.rules.specs.Calls.{Creates};
 ghost use Rattle.cache.specs.Seen.{seen, creation};
-ghost use Rattle.cache.specs.Judged.{Judged, CreateReady, keptAt, withPatch};
+ghost use Rattle.cache.specs.Judged.{Judged, keptAt, withPatch};
+ghost use Rattle.rules.proofs.Granted.{CreatePassed};
 use crate::Created;
 use crate::Table;
 use accept::befores::befores;
@@ -46,7 +47,12 @@ impl Table {
         sound: bool,
     ) -> u32
         requires { ⌜ Decides (Sound (seen self)) sound ⌝ }
-        ensures { λ r. ⌜ Judged (createCases (seen self) (now (image .entry)) (now (undo .entry)) (record { block = block; offset = offset; bytes = now (bytes .entry); named = now (named .entry) })) (CreateReady (seen self) (now (image .entry)) (now (undo .entry)) (record { block = block; offset = offset; bytes = now (bytes .entry); named = now (named .entry) })) r ⌝ }
+        ensures { λ r. ⌜ Judged
+            (createCases (seen self) (now (image .entry)) (now (undo .entry))
+            (record { block = block; offset = offset; bytes = now (bytes .entry); named = now (named .entry) }))
+            (CreatePassed (seen self) (now (image .entry)) (now (undo .entry))
+            (record { block = block; offset = offset; bytes = now (bytes .entry); named = now (named .entry) }))
+            r ⌝ }
     {
         if image.len() != 16384 {
             return 1;
@@ -117,7 +123,9 @@ impl Table {
         bytes: &[u8],
         named: &[u32],
     ) -> Created
-        ensures { λ r. ⌜ Creates (seen self) (now (image .entry)) (now (undo .entry)) (record { block = block; offset = offset; bytes = now (bytes .entry); named = now (named .entry) }) (creation r (now (image .exit)) (now (undo .exit))) ⌝ }
+        ensures { λ r. ⌜ Creates (seen self) (now (image .entry)) (now (undo .entry))
+            (record { block = block; offset = offset; bytes = now (bytes .entry); named = now (named .entry) })
+            (creation r (now (image .exit)) (now (undo .exit))) ⌝ }
     {
         let slots = self.slots;
         let verdict = judge(self.first, self.next, slots);

@@ -18,7 +18,10 @@ impl Table {
     // The first of the refusals 1 to 12 that holds, or 0.
     fn write_refusal(self, image: &[u8], undo: &[u8], handed: &[u8], block: u32, on: Patches) -> u32
         requires { ⌜ PatchesOn (self .slots) block on ⌝ }
-        ensures { λ r. ⌜ Judged (writeCases (seen self) (now (image .entry)) (now (undo .entry)) (now (handed .entry)) block) (WriteReady (seen self) (now (image .entry)) (now (undo .entry)) (now (handed .entry)) block) r ⌝ }
+        ensures { λ r. ⌜ Judged
+            (writeCases (seen self) (now (image .entry)) (now (undo .entry)) (now (handed .entry)) block)
+            (WriteReady (seen self) (now (image .entry)) (now (undo .entry)) (now (handed .entry)) block)
+            r ⌝ }
     {
         if image.len() != 16384 {
             return 1;
@@ -46,7 +49,8 @@ impl Table {
     }
 
     pub fn write(self, image: &[u8], undo: &[u8], handed: &mut [u8], block: u32) -> Written
-        ensures { λ r. ⌜ Writes (seen self) (now (image .entry)) (now (undo .entry)) (now (handed .entry)) block (writing r (now (image .exit)) (now (undo .exit)) (now (handed .exit))) ⌝ }
+        ensures { λ r. ⌜ Writes (seen self) (now (image .entry)) (now (undo .entry)) (now (handed .entry)) block
+            (writing r (now (image .exit)) (now (undo .exit)) (now (handed .exit))) ⌝ }
     {
         let slots = self.slots;
         let on = patches_on(slots, block);

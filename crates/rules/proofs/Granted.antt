@@ -57,7 +57,7 @@ sound-holds t n = record {
 abbrev pub NamesIssued : Table → Change → Type 0
 NamesIssued t c = (n : ℕ) → isIn n (c .named) ≡ true → Issued t n
 
-issued-holds : (t : Table) (c : Change) → (NamesUnissued t c → ⊥) → NamesIssued t c
+pub issued-holds : (t : Table) (c : Change) → (NamesUnissued t c → ⊥) → NamesIssued t c
 issued-holds t c f n e = (at-most (λ d. f (n, e, λ i. d (i .0))), below (λ d. f (n, e, λ i. d (i .1))))
 
 waits-holds : (ss : List Slot) (b : ℕ) → ((Waits ss b → ⊥) → ⊥) → Waits ss b

@@ -1,4 +1,5 @@
--- What document 01 says of the definitions in passing, each as a law: ranges that share a byte, a number named twice, one that has committed, and the size of a block handed out.
+-- What document 01 says of the definitions in passing, each as a law: ranges that share a byte, a number named twice, one that has committed, and the
+-- size of a block handed out.
 use Prim.Native.Nat.{ℕ, zero, suc, _+_, _-_, _≤_, _<_, min, max}
 use mathlib.Core.Path.{_≡_, refl, sym, ap, _∙_}
 use mathlib.Core.Bool.{Bool, true, false, cond, _&&_, _||_}

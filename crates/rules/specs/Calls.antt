@@ -24,7 +24,8 @@ use Rattle.rules.specs.Ask.{askWord, Asked}
 use Rattle.rules.specs.Count.{waitingOn}
 use Rattle.rules.specs.Refusals.{Case, First, openCases, createCases, writeCases, completeCases, askCases, countCases}
 
--- An outcome o of a call: its refusal number is the first that holds among the call's cases; refused, the outcome is all as it came; granted, it is what the call does.
+-- An outcome o of a call: its refusal number is the first that holds among the call's cases; refused, the outcome is all as it came; granted, it is what
+-- the call does.
 pub record Outcome {O : Type 0} (cases : List Case) (number : O → ℕ) (refused : ℕ → O) (Granted : O → Type 0) (o : O) : Type 0 where
   pub first : First cases (number o)
   pub refusal : (number o ≡ 0 → ⊥) → o ≡ refused (number o)

@@ -1,4 +1,5 @@
--- `Table::create` meets its contract: what is judged early, the lowest slot, hard or soft with its room, and the patch, the image and the undo area that are made. Assumes nothing.
+-- `Table::create` meets its contract: what is judged early, the lowest slot, hard or soft with its room, and the patch, the image and the undo area that
+-- are made. Assumes nothing.
 use Prim.Native.Nat.{ℕ}
 use mathlib.Core.Path.{_≡_, sym, ap, subst, _∙_}
 use mathlib.Core.List.{List}
@@ -10,13 +11,14 @@ use Rattle.masks.proofs.Decided.{said-yes}
 use Rattle.masks.proofs.Laws.{has-of}
 use Rattle.rules.specs.declared.Slot.{Slot}
 use Rattle.rules.specs.Table.{used}
+use Rattle.rules.proofs.Granted.{CreatePassed}
 use Rattle.rules.specs.Create.{Change, Lowest, FreeSlot, HoldOf, accepted}
 use Rattle.slots.specs.Words.{takenRooms}
 use Rattle.accept.specs.Asked.{LowestOr, Outside}
 use Rattle.accept.proofs.FreeRooms.{Means, held-means}
 use Rattle.accept.proofs.LowestFound.{lowest-same}
 use Rattle.cache.specs.Seen.{seen}
-use Rattle.cache.specs.Judged.{CreateReady, withPatch}
+use Rattle.cache.specs.Judged.{withPatch}
 use Rattle.cache.proofs.Accepted.{create-refused, create-no-slot, create-no-room, create-granted, image-made, undo-made}
 use Rattle.cache.proofs.Table.create.Statement.{statement}
 use Rattle.cache.proofs.Table.create.Tie as tie
@@ -48,7 +50,7 @@ returns c =
 
 -- where nothing was refused early
 ready-here : (c : tie.Else1)
-    → CreateReady (seen (start (c .before) .args .self)) (now (start (c .before) .args .image)) (now (start (c .before) .args .undo))
+    → CreatePassed (seen (start (c .before) .args .self)) (now (start (c .before) .args .image)) (now (start (c .before) .args .undo))
     (change (start (c .before)))
 ready-here c = c .before .create-refusal .ensures .ready (c .if1 .left)
 
