@@ -5,7 +5,7 @@ use mathlib.Core.List.{List}
 use mathlib.Core.Logic.{⊎-elim}
 use native.Mathlib.Omega.{arith}
 use Rattle.masks.specs.Sets.{has, someBelow}
-use Rattle.masks.proofs.Decided.{clash, true-or-false}
+use Rattle.ground.proofs.Decided.{clash, true-or-false}
 use Rattle.masks.proofs.Laws.{has-of, none-at, at-none}
 use Rattle.rules.specs.declared.Slot.{Slot}
 use Rattle.rules.specs.Sizes.{slots, rooms}
@@ -13,9 +13,10 @@ use Rattle.rules.specs.Slots.{hasRoom}
 use Rattle.rules.specs.Table.{slotAt}
 use Rattle.rules.specs.Create.{WouldBeHard, HoldOf, FreeRoom}
 use Rattle.slots.specs.Words.{takenRooms}
-use Rattle.accept.specs.declared.hold.Holding.{Holding}
-use Rattle.accept.specs.declared.hold.Holding.the-variants as holding
-use Rattle.accept.specs.Asked.{Outside, Held}
+use Rattle.accept.specs.declared.types.Holding.{Holding}
+use Rattle.accept.specs.declared.types.Holding.the-variants as holding
+use Rattle.masks.specs.Lowest.{Outside}
+use Rattle.accept.specs.Asked.{Held}
 
 -- the paper's word for each case of the answer
 abbrev pub Means : List Slot → ℕ → Holding → Type 0

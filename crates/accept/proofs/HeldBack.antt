@@ -7,7 +7,7 @@ use mathlib.Core.Logic.{⊎-elim}
 use borrow.Author.Tests.{ne-eqb, eq-eqb, not-true}
 use lib.Dec.{eqb}
 use Rattle.masks.specs.Sets.{has, setOf}
-use Rattle.masks.proofs.Decided.{clash, true-or-false, and-true, true-and}
+use Rattle.ground.proofs.Decided.{clash, true-or-false, and-true, true-and}
 use Rattle.masks.proofs.Laws.{has-of, has-slot, set-lt}
 use Rattle.rules.specs.declared.Slot.{Slot}
 use Rattle.rules.specs.Sizes.{slots}

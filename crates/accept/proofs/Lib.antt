@@ -1,6 +1,5 @@
 -- What the proofs of the functions share.
 pub mod Members
-pub mod LowestFound
 pub mod FreeRooms
 pub mod One
 pub mod HeldBack

@@ -8,7 +8,7 @@ use native.Mathlib.Omega.{arith}
 use borrow.Author.Tests.{eq-eqb, eqb-true}
 use lib.Dec.{eqb}
 use lib.ListN.{length, getD}
-use Rattle.masks.proofs.Decided.{clash, true-or-false, or-true, true-or-l, true-or-r}
+use Rattle.ground.proofs.Decided.{clash, true-or-false, or-true, true-or-l, true-or-r}
 use Rattle.rules.specs.Create.{isIn}
 
 pub at-in : (l : List ℕ) (k : ℕ) → k < length l → isIn (getD l k 0) l ≡ true

@@ -1,18 +1,13 @@
 // Whether a new patch is hard or soft, judged on the slots before it is added.
-ghost use Rattle.masks.specs.Decides.{Decides};
+ghost use Rattle.ground.specs.Decides.{Decides};
 ghost use Rattle.rules.specs.Create.{WouldBeHard};
 ghost use Rattle.accept.specs.Asked.{Held};
 ghost use Rattle.accept.specs.Tests.{HoldsBack};
-use crate::lowest::lowest_outside;
+use crate::types::Holding;
 use rules::Hold;
 use rules::Slot;
 use slots::patches::patches_on;
 use slots::words::is_used;
-
-pub enum Holding {
-    Of(Hold),
-    Full,
-}
 
 // Whether a patch on another block has one of the waiting patches of the block among its befores.
 fn holds_back(s: Slot, block: u32, waiting: u64) -> bool
@@ -49,7 +44,7 @@ pub fn hold_for(slots: [Slot; 64], block: u32, taken: u64) -> Holding
     if would_be_hard(slots, block) {
         return Holding::Of(Hold::Hard);
     }
-    let r = lowest_outside(taken, 16);
+    let r = masks::lowest_outside(taken, 16);
     if r < 16 {
         Holding::Of(Hold::Soft(r as u32))
     } else {

@@ -1,5 +1,5 @@
 // The named numbers, lent as a slice: whether all were issued.
-ghost use Rattle.masks.specs.Decides.{Decides};
+ghost use Rattle.ground.specs.Decides.{Decides};
 ghost use Rattle.accept.specs.Asked.{Unissued};
 
 // Whether one of the numbers was never issued.

@@ -2,11 +2,11 @@
 ghost use Prim.Native.Nat.{_+_, _≤_, _<_};
 ghost use mathlib.Core.Path.{_≡_};
 ghost use lib.ListN.{length};
-ghost use Rattle.masks.specs.Decides.{Decides};
+ghost use Rattle.ground.specs.Decides.{Decides};
 ghost use Rattle.cache.specs.Seen.{seen};
 ghost use Rattle.board.specs.Layout.{tableBytes, numberAt, stateOf, slotIn, tableIn, tableRead, IsTable};
 use cache::Table;
-use moves::slot::free;
+use slots::slot::free;
 use rules::Hold;
 use rules::Kind;
 use rules::Slot;

@@ -13,7 +13,8 @@ use Rattle.rules.specs.declared.Hold.the-variants as hold
 use Rattle.rules.specs.declared.CreateAnswer.the-variants as create
 use Rattle.rules.specs.Sizes.{roomStart, blocks, blockBytes, imageBytes, undoBytes, slots, mostBytes, mostNamed, lastNumber}
 use Rattle.rules.specs.Table.{Table, Sound}
-use Rattle.rules.specs.Create.{Change, Lowest, FreeSlot, HoldOf, accepted, changed, kept}
+use Rattle.masks.specs.Lowest.{Lowest}
+use Rattle.rules.specs.Create.{Change, FreeSlot, HoldOf, accepted, changed, kept}
 use Rattle.rules.specs.Refusals.{Case, case, First, WrongSize, Unsound, NoBlock, WrongLength, PastEnd, NamesUnissued, NoSlot, NoRoom, createCases}
 use Rattle.rules.specs.Calls.{Creates, createRefused, createGranted}
 use Rattle.rules.proofs.Granted.{CreatePassed, issued-holds}

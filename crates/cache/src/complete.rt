@@ -3,7 +3,7 @@ ghost use Rattle.rules.specs.Calls.{Completes};
 ghost use Rattle.cache.specs.Seen.{seen, completion};
 use crate::Completed;
 use crate::Table;
-use moves::complete::completed;
+use settle::complete::completed;
 use rules::Answer;
 use slots::patches::patches_on;
 use slots::sound::is_sound;

@@ -2,7 +2,7 @@
 ghost use Prim.Native.Nat.{_+_, _≤_, _<_};
 ghost use lib.ListN.{length};
 ghost use mathlib.Core.Path.{_≡_};
-ghost use Rattle.masks.specs.Decides.{Decides};
+ghost use Rattle.ground.specs.Decides.{Decides};
 ghost use Rattle.rules.specs.Table.{Sound};
 ghost use Rattle.rules.specs.Create.{patch};
 ghost use Rattle.rules.specs.Refusals.{createCases};
@@ -13,11 +13,10 @@ ghost use Rattle.rules.proofs.Granted.{CreatePassed};
 use crate::Created;
 use crate::Table;
 use accept::befores::befores;
-use accept::hold::Holding;
+use accept::types::Holding;
 use accept::hold::hold_for;
-use accept::lowest::lowest_outside;
 use accept::named::unissued;
-use moves::create::accepted;
+use accept::accepted::accepted;
 use rules::CreateAnswer;
 use rules::Hold;
 use rules::Slot;
@@ -136,7 +135,7 @@ impl Table {
                 answer: CreateAnswer::Refused(refusal),
             };
         }
-        let j = lowest_outside(verdict.used, 64);
+        let j = masks::lowest_outside(verdict.used, 64);
         if 63 < j {
             return Created {
                 table: self,

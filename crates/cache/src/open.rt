@@ -5,7 +5,7 @@ ghost use Rattle.cache.specs.Seen.{seen, opening};
 ghost use mathlib.Core.Path.{_≡_};
 use crate::Opened;
 use crate::Table;
-use moves::slot::free;
+use slots::slot::free;
 use rules::Answer;
 
 impl Table {

@@ -6,11 +6,11 @@ ghost use Rattle.cache.specs.Seen.{seen, writing};
 ghost use Rattle.cache.specs.Judged.{Judged, WriteReady};
 use crate::Table;
 use crate::Written;
-use moves::write::sent;
+use send::sent::sent;
 use rules::WriteAnswer;
 use send::hand_out::hand_out;
 use send::largest::largest;
-use slots::patches::Patches;
+use slots::types::Patches;
 use slots::patches::patches_on;
 use slots::sound::is_sound;
 

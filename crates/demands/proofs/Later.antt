@@ -4,7 +4,7 @@ use mathlib.Core.Path.{_≡_, _∙_}
 use mathlib.Core.Bool.{true}
 use mathlib.Core.List.{List, _++_, List·Memᴰ, List·Memᴰ·tail}
 use lib.Dec.{eqb}
-use Rattle.masks.proofs.Decided.{true-or-r}
+use Rattle.ground.proofs.Decided.{true-or-r}
 use Rattle.rules.specs.declared.Answer.{Answer}
 use Rattle.rules.specs.declared.Answer.the-variants as plain
 use Rattle.rules.specs.declared.CreateAnswer.{CreateAnswer}

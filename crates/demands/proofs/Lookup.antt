@@ -8,7 +8,7 @@ use mathlib.Core.Option.{Option, none, some}
 use mathlib.Core.Logic.{_≢_, _⊎_, inl, inr}
 use borrow.Author.Tests.{eq-eqb, eqb-true}
 use lib.Dec.{eqb}
-use Rattle.masks.proofs.Decided.{clash, and-true, true-and}
+use Rattle.ground.proofs.Decided.{clash, and-true, true-and}
 use Rattle.rules.specs.declared.Slot.{Slot}
 use Rattle.rules.specs.Sizes.{slots}
 use Rattle.rules.specs.Table.{slotAt, used}

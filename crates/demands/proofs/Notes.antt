@@ -8,7 +8,7 @@ use mathlib.Core.List.{List, [], _∷_, _++_, List·Memᴰ, List·Memᴰ·head, 
 use mathlib.Core.Logic.{_⊎_, inl, inr, ⊎-elim}
 use lib.Dec.{eqb}
 use lib.ListN.{length}
-use Rattle.masks.proofs.Decided.{clash, or-true}
+use Rattle.ground.proofs.Decided.{clash, or-true}
 use Rattle.spans.specs.Spans.{splice}
 use Rattle.spans.proofs.Laws.{length-splice}
 use Rattle.rules.specs.Sizes.{imageBytes, blockBytes, blocks, blockStart}

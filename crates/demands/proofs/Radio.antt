@@ -14,7 +14,7 @@ use Rattle.rules.specs.Sizes.{imageBytes, roomStart, roomBytes}
 use Rattle.rules.specs.Table.{slotAt, Sound}
 use Rattle.rules.specs.Create.{isIn}
 use Rattle.rules.specs.Refusals.{Flies}
-use Rattle.masks.proofs.Decided.{true-and}
+use Rattle.ground.proofs.Decided.{true-and}
 use Rattle.cut.specs.Changes.{Change}
 use Rattle.cut.specs.World.{World, inFlight, committed}
 use Rattle.cut.proofs.Invariant.{Invariant}

@@ -9,7 +9,7 @@ use mathlib.Core.Logic.{_⊎_, inl, inr, ⊎-elim}
 use borrow.Author.Tests.{leb-true, ltb-true, le-leb, lt-ltb}
 use lib.Dec.{leb}
 use lib.ListN.{length, getD, drop, length-take}
-use Rattle.masks.proofs.Decided.{clash, and-true, true-and, true-or-false}
+use Rattle.ground.proofs.Decided.{clash, and-true, true-and, true-or-false}
 use Rattle.spans.specs.Spans.{splice}
 use Rattle.spans.proofs.Laws.{length-splice, splice-in, splice-below, splice-above}
 use Rattle.rules.specs.declared.Hold.{Hold}

@@ -10,7 +10,7 @@ use borrow.Author.Tests.{lt-ltb, le-ltb, le-leb, eq-eqb, eqb-true, leb-true, ltb
 use lib.Dec.{eqb, leb, ltb}
 use lib.ListN.{length, getD}
 use lib.Seq.{ext-getD}
-use Rattle.masks.proofs.Decided.{clash, and-true, true-and}
+use Rattle.ground.proofs.Decided.{clash, and-true, true-and}
 use Rattle.spans.specs.Spans.{splice}
 use Rattle.spans.proofs.Laws.{splice-in, splice-below, splice-above}
 use Rattle.rules.specs.Sizes.{imageBytes, blockBytes, blocks, blockStart}

@@ -12,7 +12,7 @@ use lib.Bits.{bitAnd, bitOr}
 use lib.Dec.{eqb}
 use lib.Pow.{pow-pos, pow-mono, pow-lt}
 use Rattle.masks.specs.Sets.{bit, has, Sub, setBelow, setOf, someBelow, within, howMany}
-use Rattle.masks.proofs.Decided.{clash, same-bool, true-or-false, or-true, true-or-l, true-or-r}
+use Rattle.ground.proofs.Decided.{clash, same-bool, true-or-false, or-true, true-or-l, true-or-r}
 use Rattle.masks.proofs.Digits.{bit-lt, bit-zero, bit-and, bit-or, bit-not, add-pow-below, add-pow-at, bit-high, bits-same, some-bit}
 
 -- ---- membership and the digit

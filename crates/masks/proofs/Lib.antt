@@ -1,4 +1,5 @@
--- What follows of sets of slots and of tests, for the proofs here and in the crates that stand on this one.
-pub mod Decided
+-- What follows of sets of slots, for the proofs here and in the crates that stand on this one.
 pub mod Digits
 pub mod Laws
+pub mod Lowest
+pub mod SetSize

@@ -1,3 +1,3 @@
--- What a set of slots is, and what it is to decide a question.
+-- What a set of slots is.
 pub mod Sets
-pub mod Decides
+pub mod Lowest

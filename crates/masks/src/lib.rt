@@ -5,7 +5,8 @@ ghost use mathlib.Core.Path.{_≡_};
 ghost use mathlib.Core.Bool.{_&&_, _||_, not};
 ghost use lib.Dec.{eqb};
 ghost use Rattle.masks.specs.Sets.{has, setOf, within, Meet};
-ghost use Rattle.masks.specs.Decides.{Decides};
+ghost use Rattle.masks.specs.Lowest.{LowestOr, Outside};
+ghost use Rattle.ground.specs.Decides.{Decides};
 
 // Whether slot i is in the set.
 pub fn has(set: u64, i: usize) -> bool
@@ -60,4 +61,16 @@ pub fn meets(a: u64, b: u64) -> bool
     ensures { λ r. ⌜ Decides (Meet a b) r ⌝ }
 {
     if a & b == 0 { false } else { true }
+}
+
+// The lowest number below n that is not in the set; n where there is none.
+pub fn lowest_outside(set: u64, n: usize) -> usize
+    ensures { λ r. ⌜ LowestOr n (Outside set) r ⌝ }
+{
+    for i in 0..n {
+        if !has(set, i) {
+            return i;
+        }
+    }
+    n
 }

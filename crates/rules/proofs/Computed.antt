@@ -8,13 +8,14 @@ use borrow.Author.Tests.{eqb-true, leb-true, ltb-true, not-false}
 use lib.Dec.{eqb, leb, ltb}
 use Rattle.masks.specs.Sets.{someBelow}
 use Rattle.masks.proofs.Laws.{none-at}
-use Rattle.masks.proofs.Decided.{clash, and-true, or-true}
+use Rattle.ground.proofs.Decided.{clash, and-true, or-true}
 use Rattle.rules.specs.declared.State.the-variants as state
 use Rattle.rules.specs.declared.Slot.{Slot}
 use Rattle.rules.specs.Sizes.{slots}
 use Rattle.rules.specs.Slots.{hasRoom}
 use Rattle.rules.specs.Table.{Table, slotAt, used, Issued}
-use Rattle.rules.specs.Create.{Change, Lowest, FreeSlot, FreeRoom, isIn, holdsBack, WouldBeHard}
+use Rattle.masks.specs.Lowest.{Lowest}
+use Rattle.rules.specs.Create.{Change, FreeSlot, FreeRoom, isIn, holdsBack, WouldBeHard}
 use Rattle.rules.specs.Refusals.{NamesUnissued}
 
 -- ---- create

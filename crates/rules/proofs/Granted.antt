@@ -10,7 +10,7 @@ use native.Mathlib.Decide.{ℕ-discrete, decLe, decLt}
 use lib.ListN.{length}
 use Rattle.masks.specs.Sets.{has}
 use Rattle.masks.proofs.Laws.{has-none, no-member, a-member, set-none, set-some}
-use Rattle.masks.proofs.Decided.{clash, true-or-false}
+use Rattle.ground.proofs.Decided.{clash, true-or-false}
 use Rattle.rules.specs.declared.Slot.{Slot}
 use Rattle.rules.specs.Sizes.{blocks, blockBytes, imageBytes, undoBytes, mostBytes, mostNamed, lastNumber}
 use Rattle.rules.specs.Table.{Table, used, waitsOn, Sound, Issued}

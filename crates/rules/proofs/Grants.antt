@@ -17,7 +17,8 @@ use Rattle.rules.specs.Ask.{askWord, Asked}
 use Rattle.rules.specs.Refusals.{First, askCases}
 use Rattle.rules.specs.Calls.{Creation, createGranted, Accepts, Writing, writeGranted, sentSet, Sends, CountsWaiting}
 use Rattle.rules.proofs.Cases.{passed}
-use Rattle.rules.proofs.Lowest.{lowest-one, hold-one}
+use Rattle.masks.proofs.Lowest.{lowest-one}
+use Rattle.rules.proofs.HardOrSoft.{hold-one}
 use Rattle.rules.proofs.Largest.{largest-one}
 use Rattle.rules.proofs.Words.{not-both}
 

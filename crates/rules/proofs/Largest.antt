@@ -7,7 +7,7 @@ use mathlib.Core.Logic.{_⊎_, inl, inr, ⊎-elim}
 use native.Mathlib.Omega.{arith}
 use Rattle.masks.specs.Sets.{has, setOf}
 use Rattle.masks.proofs.Laws.{has-set, has-slot, has-none, set-lt, same-sub}
-use Rattle.masks.proofs.Decided.{clash, or-true, true-or-l, true-or-r}
+use Rattle.ground.proofs.Decided.{clash, or-true, true-or-l, true-or-r}
 use Rattle.rules.specs.declared.Slot.{Slot}
 use Rattle.rules.specs.Write.{MayGo, Largest}
 

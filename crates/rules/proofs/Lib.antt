@@ -4,7 +4,7 @@ pub mod Outcomes
 pub mod SlotsBy
 pub mod After
 pub mod Words
-pub mod Lowest
+pub mod HardOrSoft
 pub mod Largest
 pub mod Rounds
 pub mod TakenBack

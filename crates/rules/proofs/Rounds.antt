@@ -10,7 +10,7 @@ use native.Mathlib.Omega.{arith}
 use borrow.Author.Tests.{not-true, not-false}
 use Rattle.masks.specs.Sets.{has, setOf, Sub, someBelow, within, howMany}
 use Rattle.masks.proofs.Laws.{has-set, has-slot, has-none, set-lt, none-at, at-none, within-at, at-within, size-less, many-le}
-use Rattle.masks.proofs.Decided.{clash, true-or-false, and-true, true-and}
+use Rattle.ground.proofs.Decided.{clash, true-or-false, and-true, true-and}
 use Rattle.rules.specs.declared.Slot.{Slot}
 use Rattle.rules.specs.Sizes.{slots}
 use Rattle.rules.specs.Table.{slotAt, waitsOn, hardOn}

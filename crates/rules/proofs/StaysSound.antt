@@ -10,7 +10,7 @@ use borrow.Author.Tests.{eq-eqb, ne-eqb, not-true}
 use lib.Dec.{eqb}
 use Rattle.masks.specs.Sets.{has, setOf, Sub}
 use Rattle.masks.proofs.Laws.{has-set, has-slot, set-lt}
-use Rattle.masks.proofs.Decided.{clash, and-true, or-true}
+use Rattle.ground.proofs.Decided.{clash, and-true, or-true}
 use Rattle.rules.specs.declared.Hold.{Hold}
 use Rattle.rules.specs.declared.Hold.the-variants as hold
 use Rattle.rules.specs.declared.State.{State}
@@ -20,7 +20,8 @@ use Rattle.rules.specs.Sizes.{blocks, blockBytes, rooms, slots, mostByte
 use Rattle.rules.specs.Slots.{isUsed, hasRoom, freeSlot, withState}
 use Rattle.rules.specs.Table.{Table, slotAt, slotsBy, withSlots, withNext, used, fliesOn, HasRoom, Sound}
 use Rattle.rules.specs.Open.{opened}
-use Rattle.rules.specs.Create.{Change, Lowest, FreeSlot, FreeRoom, HoldOf, isNamed, overlaps, befores, patch}
+use Rattle.masks.specs.Lowest.{Lowest}
+use Rattle.rules.specs.Create.{Change, FreeSlot, FreeRoom, HoldOf, isNamed, overlaps, befores, patch}
 use Rattle.rules.specs.Create.{turned, turnedState, acceptedSlot, acceptedSlots, accepted}
 use Rattle.rules.specs.Write.{sentState, sentSlot, sentSlots, sent}
 use Rattle.rules.specs.Complete.{withoutBefores, landing, completedSlots, completed}

@@ -10,14 +10,15 @@ use lib.Dec.{leb, ltb}
 use lib.ListN.{length}
 use Rattle.masks.specs.Sets.{has, someBelow}
 use Rattle.masks.proofs.Laws.{has-none, has-slot, none-at}
-use Rattle.masks.proofs.Decided.{clash, and-true}
+use Rattle.ground.proofs.Decided.{clash, and-true}
 use Rattle.spans.proofs.Laws.{length-splice}
 use Rattle.rules.specs.declared.Hold.{Hold}
 use Rattle.rules.specs.declared.Hold.the-variants as hold
 use Rattle.rules.specs.declared.Slot.{Slot}
 use Rattle.rules.specs.Sizes.{blocks, blockBytes, imageBytes, undoBytes, slots, mostBytes, mostNamed, lastNumber}
 use Rattle.rules.specs.Table.{Table, fliesOn, waitsOn, Sound}
-use Rattle.rules.specs.Create.{Change, Lowest, FreeSlot, HoldOf, changed, kept}
+use Rattle.masks.specs.Lowest.{Lowest}
+use Rattle.rules.specs.Create.{Change, FreeSlot, HoldOf, changed, kept}
 use Rattle.rules.specs.Write.{Largest}
 use Rattle.rules.specs.Rounds.{round, rounds}
 use Rattle.rules.specs.Refusals.{NoRoom, Flies}

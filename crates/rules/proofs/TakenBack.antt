@@ -9,7 +9,7 @@ use native.Mathlib.Decide.{ℕ-discrete}
 use native.Mathlib.Omega.{arith}
 use borrow.Author.Tests.{eq-eqb, ne-eqb, eqb-true, not-true}
 use lib.Dec.{eqb}
-use Rattle.masks.proofs.Decided.{clash, and-true, true-and, same-bool}
+use Rattle.ground.proofs.Decided.{clash, and-true, true-and, same-bool}
 use Rattle.rules.specs.declared.Slot.{Slot}
 use Rattle.rules.specs.Table.{slotAt}
 use Rattle.rules.specs.Write.{takenBack, backNumber, backDown}

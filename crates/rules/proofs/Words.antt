@@ -6,7 +6,7 @@ use mathlib.Core.Bool.{true}
 use mathlib.Core.List.{List}
 use borrow.Author.Tests.{eq-eqb, eqb-true}
 use lib.Dec.{eqb}
-use Rattle.masks.proofs.Decided.{clash, and-true, true-and}
+use Rattle.ground.proofs.Decided.{clash, and-true, true-and}
 use Rattle.rules.specs.declared.Hold.the-variants as hold
 use Rattle.rules.specs.declared.State.{State}
 use Rattle.rules.specs.declared.State.the-variants as state

@@ -17,7 +17,8 @@ use Rattle.rules.specs.declared.Answer.the-variants as plain
 use Rattle.rules.specs.Sizes.{slots}
 use Rattle.rules.specs.Table.{Table}
 use Rattle.rules.specs.Open.{opened}
-use Rattle.rules.specs.Create.{Change, Lowest, FreeSlot, HoldOf, accepted, changed, kept}
+use Rattle.masks.specs.Lowest.{Lowest}
+use Rattle.rules.specs.Create.{Change, FreeSlot, HoldOf, accepted, changed, kept}
 use Rattle.rules.specs.Write.{Largest, handedOut, sent}
 use Rattle.rules.specs.Complete.{completed}
 use Rattle.rules.specs.Ask.{askWord, Asked}

@@ -6,6 +6,7 @@ use mathlib.Core.List.{List, [], _∷_}
 use lib.Dec.{eqb, ltb}
 use lib.ListN.{length}
 use Rattle.masks.specs.Sets.{has, setOf}
+use Rattle.masks.specs.Lowest.{Lowest}
 use Rattle.spans.specs.Spans.{splice, part}
 use Rattle.rules.specs.declared.Hold.{Hold}
 use Rattle.rules.specs.declared.Hold.the-variants as hold
@@ -22,12 +23,6 @@ pub record Change : Type 0 where
   pub offset : ℕ
   pub bytes : List ℕ
   pub named : List ℕ
-
--- P holds of r, of the numbers below n, and of no lower one
-pub record Lowest (n : ℕ) (P : ℕ → Type 0) (r : ℕ) : Type 0 where
-  pub within : r < n
-  pub holds : P r
-  pub least : (i : ℕ) → i < r → P i → ⊥
 
 -- slot i is free
 abbrev pub FreeSlot : List Slot → ℕ → Type 0

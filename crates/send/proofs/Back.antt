@@ -10,7 +10,7 @@ use borrow.Author.Tests.{eq-eqb}
 use lib.Dec.{eqb}
 use lib.ListN.{getD}
 use Rattle.masks.specs.Sets.{has, setOf, howMany}
-use Rattle.masks.proofs.Decided.{clash, and-true}
+use Rattle.ground.proofs.Decided.{clash, and-true}
 use Rattle.masks.proofs.Laws.{has-none, has-of, has-slot, set-lt, size-less}
 use Rattle.rules.specs.declared.Slot.{Slot}
 use Rattle.rules.specs.Table.{slotAt}

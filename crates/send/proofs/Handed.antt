@@ -7,7 +7,7 @@ use mathlib.Core.List.{List}
 use native.Mathlib.Omega.{arith}
 use lib.ListN.{length}
 use Rattle.masks.specs.Sets.{has, setOf}
-use Rattle.masks.proofs.Decided.{and-true}
+use Rattle.ground.proofs.Decided.{and-true}
 use Rattle.masks.proofs.Laws.{has-of}
 use Rattle.spans.specs.Spans.{part}
 use Rattle.spans.proofs.Laws.{splice-whole, length-part}

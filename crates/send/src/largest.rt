@@ -4,7 +4,7 @@
 ghost use mathlib.Core.Path.{_≡_};
 ghost use Rattle.rules.specs.Rounds.{searched};
 use rules::Slot;
-use slots::patches::Patches;
+use slots::types::Patches;
 
 pub fn largest(slots: [Slot; 64], on: Patches) -> u64
     ensures { λ r. ⌜ r ≡ searched slots (on .hard) (on .waiting) ⌝ }

@@ -2,3 +2,4 @@
 // handed out, with what stays behind taken back.
 pub mod hand_out;
 pub mod largest;
+pub mod sent;

@@ -3,5 +3,5 @@ pub mod Gathered
 pub mod OnBlock
 pub mod One
 pub mod Rooms
-pub mod SetSize
 pub mod Tested
+pub mod Walked

@@ -6,7 +6,7 @@ use Rattle.masks.proofs.Laws.{set-none, set-some}
 use Rattle.rules.specs.declared.Slot.{Slot}
 use Rattle.rules.specs.Table.{waitsOn, fliesOn}
 use Rattle.rules.specs.Refusals.{Flies, Waits}
-use Rattle.slots.specs.declared.patches.Patches.{Patches}
+use Rattle.slots.specs.declared.types.Patches.{Patches}
 use Rattle.slots.specs.Words.{PatchesOn}
 
 module _ {ss : List Slot} {b : ℕ} {p : Patches} (on : PatchesOn ss b p) where

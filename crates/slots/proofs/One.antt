@@ -7,11 +7,11 @@ use native.Mathlib.Decide.{decLt}
 use native.Mathlib.Omega.{arith}
 use lib.Seq.{ext-getD}
 use Rattle.masks.specs.Sets.{setOf}
-use Rattle.masks.proofs.Decided.{decides-one}
+use Rattle.ground.proofs.Decided.{decides-one}
 use Rattle.rules.specs.declared.Slot.{Slot}
 use Rattle.rules.specs.Table.{Sound, tableOf, used}
-use Rattle.slots.specs.declared.patches.Patches.{Patches}
-use Rattle.slots.specs.declared.sound.Verdict.{Verdict}
+use Rattle.slots.specs.declared.types.Patches.{Patches}
+use Rattle.slots.specs.declared.types.Verdict.{Verdict}
 use Rattle.slots.specs.Words.{Found, NumbersOf, PatchesOn, IsVerdict, takenRooms}
 
 pub found-one : {ss : List Slot} {n a b : ℕ} → Found ss n a → Found ss n b → a ≡ b

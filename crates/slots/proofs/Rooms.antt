@@ -5,7 +5,7 @@ use mathlib.Core.Bool.{Bool, false, _||_}
 use mathlib.Core.List.{List}
 use mathlib.Core.Logic.{⊎-elim}
 use Rattle.masks.specs.Sets.{has, Meet, setOf}
-use Rattle.masks.proofs.Decided.{clash, true-or-false}
+use Rattle.ground.proofs.Decided.{clash, true-or-false}
 use Rattle.masks.proofs.Laws.{has-of, has-slot, set-lt}
 use Rattle.rules.specs.declared.Slot.{Slot}
 use Rattle.rules.specs.Slots.{hasRoom}

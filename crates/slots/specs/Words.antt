@@ -4,14 +4,14 @@ use mathlib.Core.Path.{_≡_}
 use mathlib.Core.Bool.{true, cond}
 use mathlib.Core.List.{List}
 use lib.ListN.{length, getD}
-use Rattle.masks.specs.Decides.{Decides}
+use Rattle.ground.specs.Decides.{Decides}
 use Rattle.masks.specs.Sets.{setOf, someBelow}
 use Rattle.rules.specs.declared.Slot.{Slot}
 use Rattle.rules.specs.Sizes.{slots}
 use Rattle.rules.specs.Slots.{hasRoom}
 use Rattle.rules.specs.Table.{Sound, tableOf, used, slotAt, waitsOn, hardOn, fliesOn}
-use Rattle.slots.specs.declared.patches.Patches.{Patches}
-use Rattle.slots.specs.declared.sound.Verdict.{Verdict}
+use Rattle.slots.specs.declared.types.Patches.{Patches}
+use Rattle.slots.specs.declared.types.Verdict.{Verdict}
 
 -- slot i is in use and has the number n
 abbrev pub Carries : List Slot → ℕ → ℕ → Type 0

@@ -1,6 +1,8 @@
 // The 64 slots as the calls read them: words on one slot, walks over all, the patches of a block,
 // and whether a table is sound. Nothing here changes a slot.
 pub mod patches;
+pub mod slot;
 pub mod sound;
+pub mod types;
 pub mod walks;
 pub mod words;

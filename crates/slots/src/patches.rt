@@ -3,16 +3,10 @@
 ghost use mathlib.Core.Path.{_≡_};
 ghost use Rattle.rules.specs.Slots.{isWaiting, isInFlight, isHard};
 ghost use Rattle.slots.specs.Words.{PatchesOn};
+use crate::types::Patches;
 use rules::Hold;
 use rules::Slot;
 use rules::State;
-
-// Those that wait, those of them that are hard, and those in flight.
-pub struct Patches {
-    pub waiting: u64,
-    pub hard: u64,
-    pub in_flight: u64,
-}
 
 fn is_waiting(u: State) -> bool
     ensures { λ r. ⌜ r ≡ isWaiting u ⌝ }

@@ -1,12 +1,13 @@
 // Whether a table is sound: each patch by itself, then beside those of the slots below it.
 ghost use mathlib.Core.Path.{_≡_};
 ghost use lib.ListN.{length};
-ghost use Rattle.masks.specs.Decides.{Decides};
+ghost use Rattle.ground.specs.Decides.{Decides};
 ghost use Rattle.masks.specs.Sets.{setOf};
 ghost use Rattle.rules.specs.Slots.{hasRoom};
 ghost use Rattle.rules.specs.Table.{Sound, tableOf};
 ghost use Rattle.slots.specs.Tests.{HeaderInRange, InRange, Alone, Marking, unsound};
 ghost use Rattle.slots.specs.Words.{IsVerdict};
+use crate::types::Verdict;
 use crate::walks::find;
 use crate::words::is_used;
 use crate::words::room_of;
@@ -101,14 +102,6 @@ fn mark(marks: &mut [u64; 16], n: u32) -> bool
     let marked = marks[at];
     marks[at] = masks::with(marked, digits);
     masks::has(marked, digits)
-}
-
-// Whether the table is sound, the slots in use and the rooms that are taken; no slot and no room where
-// it is not.
-pub struct Verdict {
-    pub sound: bool,
-    pub used: u64,
-    pub rooms: u64,
 }
 
 fn unsound() -> Verdict

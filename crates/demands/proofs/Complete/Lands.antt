@@ -8,7 +8,7 @@ use mathlib.Core.Logic.{_≢_, _⊎_, inl, inr}
 use borrow.Author.Tests.{eq-eqb, ne-eqb}
 use lib.Dec.{eqb}
 use Rattle.masks.specs.Sets.{has}
-use Rattle.masks.proofs.Decided.{clash, true-and}
+use Rattle.ground.proofs.Decided.{clash, true-and}
 use Rattle.rules.specs.declared.Slot.{Slot}
 use Rattle.rules.specs.Table.{slotAt}
 use Rattle.rules.proofs.After.{befores-at}

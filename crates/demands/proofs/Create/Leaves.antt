@@ -7,7 +7,7 @@ use mathlib.Core.List.{List, _∷_, _++_, List·Memᴰ, List·Memᴰ·head, List
 use mathlib.Core.Logic.{_⊎_, inl, inr}
 use borrow.Author.Tests.{eq-eqb}
 use lib.ListN.{length}
-use Rattle.masks.proofs.Decided.{true-and, true-or-false}
+use Rattle.ground.proofs.Decided.{true-and, true-or-false}
 use Rattle.spans.proofs.Laws.{length-splice}
 use Rattle.rules.specs.declared.Hold.{Hold}
 use Rattle.rules.specs.declared.Slot.{Slot}

@@ -8,7 +8,7 @@ use mathlib.Core.Option.{Option, none, some}
 use mathlib.Core.Logic.{_≢_, _⊎_, inl, inr}
 use borrow.Author.Tests.{eq-eqb, ne-eqb}
 use lib.Dec.{eqb}
-use Rattle.masks.proofs.Decided.{clash, same-bool}
+use Rattle.ground.proofs.Decided.{clash, same-bool}
 use Rattle.rules.specs.declared.Hold.{Hold}
 use Rattle.rules.specs.declared.Hold.the-variants as hold
 use Rattle.rules.specs.declared.State as rules
@@ -18,7 +18,8 @@ use Rattle.rules.specs.Sizes.{slots}
 use Rattle.rules.specs.Slots.{isUsed, withState}
 use Rattle.rules.specs.Table.{slotAt, used, Sound}
 use Rattle.rules.specs.Create as create
-use Rattle.rules.specs.Create.{Lowest, FreeSlot, HoldOf, patch, turned, turnedState, acceptedSlot, acceptedSlots, accepted, changed, kept}
+use Rattle.masks.specs.Lowest.{Lowest}
+use Rattle.rules.specs.Create.{FreeSlot, HoldOf, patch, turned, turnedState, acceptedSlot, acceptedSlots, accepted, changed, kept}
 use Rattle.rules.proofs.After.{accepted-at}
 use Rattle.rules.proofs.Granted.{CreatePassed}
 use Rattle.rules.proofs.StaysSound.{Like, like-self, turned-like, accepted-sound}

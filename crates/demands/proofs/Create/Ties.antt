@@ -8,7 +8,7 @@ use mathlib.Core.Option.{Option, none, some}
 use mathlib.Core.Logic.{_⊎_, inl, inr}
 use Rattle.masks.specs.Sets.{has}
 use Rattle.masks.proofs.Laws.{has-set}
-use Rattle.masks.proofs.Decided.{true-and, true-or-l, true-or-r}
+use Rattle.ground.proofs.Decided.{true-and, true-or-l, true-or-r}
 use Rattle.rules.specs.declared.Hold.{Hold}
 use Rattle.rules.specs.declared.Slot.{Slot}
 use Rattle.rules.specs.Create as create

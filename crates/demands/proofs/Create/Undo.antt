@@ -8,7 +8,7 @@ use mathlib.Core.List.{List, map, List·Memᴰ}
 use mathlib.Core.Option.{Option, none, some}
 use mathlib.Core.Logic.{_≢_}
 use lib.ListN.{length, getD}
-use Rattle.masks.proofs.Decided.{clash}
+use Rattle.ground.proofs.Decided.{clash}
 use Rattle.spans.specs.Spans.{splice}
 use Rattle.spans.proofs.Laws.{splice-in, splice-below, splice-above, length-part, part-in}
 use Rattle.rules.specs.declared.Hold.{Hold}

@@ -10,7 +10,7 @@ use mathlib.Core.List.{List, [], _∷_, _++_, map, List·Memᴰ, List·Memᴰ·h
 use mathlib.Core.Option.{Option, none, some}
 use mathlib.Core.Logic.{_⊎_, inl, inr}
 use lib.ListN.{length, getD}
-use Rattle.masks.proofs.Decided.{clash, true-or-false}
+use Rattle.ground.proofs.Decided.{clash, true-or-false}
 use Rattle.spans.specs.Spans.{splice, part}
 use Rattle.spans.proofs.Laws.{splice-in, splice-below, splice-above, length-part, part-in}
 use Rattle.rules.specs.declared.Slot.{Slot}

@@ -8,7 +8,7 @@ use mathlib.Core.Option.{Option, none, some}
 use mathlib.Core.Logic.{_⊎_, inl, inr}
 use Rattle.masks.specs.Sets.{has}
 use Rattle.masks.proofs.Laws.{has-slot}
-use Rattle.masks.proofs.Decided.{clash, true-or-false, same-bool}
+use Rattle.ground.proofs.Decided.{clash, true-or-false, same-bool}
 use Rattle.rules.specs.declared.Slot.{Slot}
 use Rattle.rules.specs.Sizes.{slots}
 use Rattle.rules.specs.Table.{slotAt, used}

@@ -8,7 +8,7 @@ use mathlib.Core.Logic.{⊎-elim}
 use borrow.Author.Tests.{eq-eqb, eqb-true, not-true}
 use lib.Dec.{eqb}
 use Rattle.masks.specs.Sets.{has}
-use Rattle.masks.proofs.Decided.{clash, and-true, true-and, true-or-false}
+use Rattle.ground.proofs.Decided.{clash, and-true, true-and, true-or-false}
 use Rattle.rules.specs.declared.Slot.{Slot}
 use Rattle.rules.specs.Sizes.{slots}
 use Rattle.rules.specs.Slots.{isWaiting, isHard}

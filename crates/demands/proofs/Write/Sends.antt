@@ -5,7 +5,7 @@ use mathlib.Core.Bool.{true}
 use mathlib.Core.List.{List, _∷_, _++_}
 use mathlib.Core.Logic.{_≢_, inr, ⊎-elim}
 use Rattle.masks.specs.Sets.{has}
-use Rattle.masks.proofs.Decided.{true-or-false}
+use Rattle.ground.proofs.Decided.{true-or-false}
 use Rattle.rules.specs.declared.Slot.{Slot}
 use Rattle.cut.specs.Changes.{Change, covers}
 use Rattle.cut.specs.World.{waiting, inFlight, left, Sends}

@@ -6,7 +6,7 @@ use mathlib.Core.List.{List, _∷_, List·Memᴰ}
 use mathlib.Core.Option.{Option, none, some}
 use borrow.Author.Tests.{eqb-true}
 use Rattle.masks.specs.Sets.{has}
-use Rattle.masks.proofs.Decided.{clash, and-true, same-bool}
+use Rattle.ground.proofs.Decided.{clash, and-true, same-bool}
 use Rattle.rules.specs.declared.State as rules
 use Rattle.rules.specs.declared.State.the-variants as state
 use Rattle.rules.specs.declared.Slot.{Slot}

@@ -4,7 +4,7 @@ use mathlib.Core.Path.{_≡_, sym, ap, _∙_}
 use lib.Bits.{bitAnd, and-lt}
 use Rattle.masks.specs.Sets.{has, Meet}
 use Rattle.masks.proofs.Laws.{has-and, has-none, a-member}
-use Rattle.masks.proofs.Decided.{clash, and-true, true-and}
+use Rattle.ground.proofs.Decided.{clash, and-true, true-and}
 use Rattle.masks.proofs.meets.Statement.{statement}
 use Rattle.masks.proofs.meets.Tie as tie
 

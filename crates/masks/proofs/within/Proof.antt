@@ -6,7 +6,7 @@ use native.Mathlib.Omega.{arith}
 use borrow.Author.Tests.{not-false}
 use lib.Bits.{bitAnd, and-le-l}
 use Rattle.masks.specs.Sets.{has, Sub, within}
-use Rattle.masks.proofs.Decided.{true-or-false}
+use Rattle.ground.proofs.Decided.{true-or-false}
 use Rattle.masks.proofs.Laws.{has-none, has-slot, no-member, has-without, within-sub, sub-within}
 use Rattle.masks.proofs.within.Statement.{statement}
 use Rattle.masks.proofs.within.Tie as tie

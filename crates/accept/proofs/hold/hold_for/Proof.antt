@@ -1,6 +1,6 @@
 -- `accept::hold::hold_for` meets its contract: each answer is a case of Held. Assumes nothing.
 use borrow.Author.Needs.{needs}
-use Rattle.masks.proofs.Decided.{yes-of, no-of}
+use Rattle.ground.proofs.Decided.{yes-of, no-of}
 use Rattle.rules.specs.Create.{WouldBeHard}
 use Rattle.accept.specs.Asked.{Held}
 use Rattle.accept.proofs.hold.hold_for.Statement.{statement}

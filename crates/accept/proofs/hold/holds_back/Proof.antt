@@ -1,7 +1,7 @@
 -- `accept::hold::holds_back` meets its contract: each answer is what the tests before it leave of one slot. Assumes nothing.
 use mathlib.Core.Path.{sym, _∙_}
 use borrow.Author.Tests.{not-true, not-false}
-use Rattle.masks.proofs.Decided.{clash, decides, yes-of, no-of}
+use Rattle.ground.proofs.Decided.{clash, decides, yes-of, no-of}
 use borrow.Author.Needs.{needs}
 use Rattle.accept.proofs.hold.holds_back.Statement.{statement}
 use Rattle.accept.proofs.hold.holds_back.Tie as tie

@@ -3,7 +3,7 @@
 use Prim.Native.Nat.{ℕ, _≤_, _<_, _-_}
 use native.Mathlib.Omega.{arith}
 use borrow.Author.Count.{below-none, below-more}
-use Rattle.masks.proofs.Decided.{yes-of, no-of}
+use Rattle.ground.proofs.Decided.{yes-of, no-of}
 use Rattle.rules.specs.Table.{slotAt}
 use Rattle.accept.specs.Tests.{HoldsBack}
 use Rattle.accept.proofs.HeldBack.{hard-holds-none, none-holds-hard}

@@ -1,7 +1,7 @@
 -- `calls::board_ask` meets its contract. Assumes nothing.
 use mathlib.Core.Path.{_≡_, _∙_}
 use denote.Ref.{now}
-use Rattle.masks.proofs.Decided.{yes-not, no-not}
+use Rattle.ground.proofs.Decided.{yes-not, no-not}
 use Rattle.rules.specs.declared.AskAnswer.the-variants as ask
 use Rattle.cache.specs.Seen.{seen}
 use Rattle.board.specs.Layout.{IsTable, tableIn}

@@ -1,7 +1,7 @@
 -- `calls::board_complete` meets its contract. Assumes nothing.
 use mathlib.Core.Path.{_≡_, _∙_}
 use denote.Ref.{now}
-use Rattle.masks.proofs.Decided.{yes-not, no-not}
+use Rattle.ground.proofs.Decided.{yes-not, no-not}
 use Rattle.cache.specs.Seen.{seen, completion}
 use Rattle.board.specs.Layout.{IsTable, tableIn}
 use Rattle.board.proofs.Length.{read-whole, stored-whole}

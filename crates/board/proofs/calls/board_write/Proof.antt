@@ -2,7 +2,7 @@
 use mathlib.Core.Path.{_≡_, _∙_}
 use mathlib.Core.Logic.{inl, inr, ⊎-elim}
 use denote.Ref.{now}
-use Rattle.masks.proofs.Decided.{yes-not, no-not}
+use Rattle.ground.proofs.Decided.{yes-not, no-not}
 use Rattle.rules.specs.Calls.{Writing}
 use Rattle.rules.proofs.Cases.{holds, passes}
 use Rattle.cache.specs.Seen.{seen, writing}

@@ -2,7 +2,7 @@
 use Prim.Native.Nat.{_≤_, _-_}
 use mathlib.Core.Path.{refl}
 use native.Mathlib.Omega.{arith}
-use Rattle.moves.proofs.Walked.{Walked, walk-starts, walk-goes-on, walk-ends}
+use Rattle.slots.proofs.Walked.{Walked, walk-starts, walk-goes-on, walk-ends}
 use Rattle.board.specs.Layout.{slotIn, slotStart, tableIn}
 use borrow.Author.Needs.{needs}
 use Rattle.board.proofs.read.slots_in.Statement.{statement}

@@ -4,7 +4,7 @@ use mathlib.Core.Path.{refl, ap}
 use native.Mathlib.Omega.{arith}
 use native.Mathlib.Nat.{not-le-of-lt}
 use borrow.Author.Needs.{needs}
-use Rattle.masks.proofs.Decided.{clash, yes-not, no-not}
+use Rattle.ground.proofs.Decided.{clash, yes-not, no-not}
 use Rattle.rules.specs.declared.AskAnswer.the-variants as ask
 use Rattle.rules.specs.Slots.{isUsed, isWaiting, isInFlight}
 use Rattle.rules.specs.Table.{Sound, Issued, InSlot}

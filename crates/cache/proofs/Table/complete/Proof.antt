@@ -4,7 +4,7 @@ use mathlib.Core.Path.{sym, ap, subst, _∙_}
 use mathlib.Core.List.{List}
 use native.Mathlib.Omega.{arith}
 use borrow.Author.Needs.{needs}
-use Rattle.masks.proofs.Decided.{yes-not, no-not}
+use Rattle.ground.proofs.Decided.{yes-not, no-not}
 use Rattle.slots.proofs.OnBlock.{some-flies, none-flies}
 use Rattle.rules.specs.declared.Answer.the-variants as answer
 use Rattle.rules.specs.declared.Slot.{Slot}

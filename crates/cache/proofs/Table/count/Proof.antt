@@ -4,10 +4,10 @@ use borrow.Author.Needs.{needs}
 use Prim.Native.Nat.{ℕ}
 use native.Mathlib.Omega.{arith}
 use lib.Count.{ones}
-use Rattle.masks.proofs.Decided.{yes-not, no-not}
+use Rattle.ground.proofs.Decided.{yes-not, no-not}
 use Rattle.rules.specs.declared.CountAnswer.the-variants as count
 use Rattle.rules.specs.Table.{Sound, waitsOn}
-use Rattle.slots.proofs.SetSize.{ones-many}
+use Rattle.masks.proofs.SetSize.{ones-many}
 use Rattle.rules.specs.Calls.{Counts}
 use Rattle.cache.specs.Seen.{seen}
 use Rattle.cache.proofs.Looks.{count-unsound, count-no-block, count-granted}

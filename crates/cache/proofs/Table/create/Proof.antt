@@ -7,16 +7,17 @@ use native.Mathlib.Omega.{arith}
 use borrow.Author.Needs.{needs}
 use denote.Ref.{now}
 use Rattle.masks.specs.Sets.{setOf}
-use Rattle.masks.proofs.Decided.{said-yes}
+use Rattle.ground.proofs.Decided.{said-yes}
 use Rattle.masks.proofs.Laws.{has-of}
 use Rattle.rules.specs.declared.Slot.{Slot}
 use Rattle.rules.specs.Table.{used}
 use Rattle.rules.proofs.Granted.{CreatePassed}
-use Rattle.rules.specs.Create.{Change, Lowest, FreeSlot, HoldOf, accepted}
+use Rattle.masks.specs.Lowest.{Lowest}
+use Rattle.rules.specs.Create.{Change, FreeSlot, HoldOf, accepted}
 use Rattle.slots.specs.Words.{takenRooms}
-use Rattle.accept.specs.Asked.{LowestOr, Outside}
+use Rattle.masks.specs.Lowest.{LowestOr, Outside}
 use Rattle.accept.proofs.FreeRooms.{Means, held-means}
-use Rattle.accept.proofs.LowestFound.{lowest-same}
+use Rattle.masks.proofs.Lowest.{lowest-same}
 use Rattle.cache.specs.Seen.{seen}
 use Rattle.cache.specs.Judged.{withPatch}
 use Rattle.cache.proofs.Accepted.{create-refused, create-no-slot, create-no-room, create-granted, image-made, undo-made}

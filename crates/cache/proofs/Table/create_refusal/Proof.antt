@@ -3,7 +3,7 @@ use mathlib.Core.Logic.{inl, inr}
 use native.Mathlib.Omega.{arith}
 use borrow.Author.Needs.{needs}
 use denote.Ref.{now}
-use Rattle.masks.proofs.Decided.{yes-of, no-of, yes-not, no-not}
+use Rattle.ground.proofs.Decided.{yes-of, no-of, yes-not, no-not}
 use Rattle.rules.specs.Table.{Sound}
 use Rattle.cache.specs.Seen.{seen}
 use Rattle.cache.proofs.Accepted.{create-wrong-size, create-unsound, create-no-block, create-wrong-length, create-past-end, Past5, create-many-named}

@@ -3,7 +3,7 @@ use mathlib.Core.Logic.{inl, inr}
 use mathlib.Core.Path.{refl}
 use native.Mathlib.Omega.{arith}
 use borrow.Author.Needs.{needs}
-use Rattle.masks.proofs.Decided.{yes-not, no-not}
+use Rattle.ground.proofs.Decided.{yes-not, no-not}
 use Rattle.rules.specs.Table.{Sound}
 use Rattle.slots.specs.Words.{PatchesOn}
 use Rattle.slots.proofs.OnBlock.{some-flies, none-flies, some-waits, none-waits}

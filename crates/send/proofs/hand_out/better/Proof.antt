@@ -7,7 +7,7 @@ use borrow.Author.Needs.{needs}
 use borrow.Author.Tests.{not-true, not-false}
 use denote.Ref.{now}
 use Rattle.masks.specs.Sets.{has}
-use Rattle.masks.proofs.Decided.{clash}
+use Rattle.ground.proofs.Decided.{clash}
 use Rattle.send.specs.Back.{Best}
 use Rattle.send.proofs.Back.{best-stays, best-changes}
 use Rattle.send.proofs.hand_out.better.Statement.{statement}

@@ -11,7 +11,7 @@ use borrow.Author.Needs.{needs}
 use borrow.Author.Tests.{not-true, not-false}
 use lib.ListN.{length}
 use Rattle.masks.specs.Sets.{setBelow}
-use Rattle.masks.proofs.Decided.{clash, yes-of, no-of, yes-not, no-not}
+use Rattle.ground.proofs.Decided.{clash, yes-of, no-of, yes-not, no-not}
 use Rattle.masks.proofs.Laws as sets
 use Rattle.rules.specs.declared.Slot.{Slot}
 use Rattle.rules.specs.Table.{Sound, tableOf, used, slotAt}

@@ -11,7 +11,7 @@ use lib.Dec.{eqb}
 use lib.ListN.{length, getD, set, length-set}
 use lib.Seq.{getD-set-same, getD-set-other}
 use Rattle.masks.specs.Sets.{has, setOf}
-use Rattle.masks.proofs.Decided.{true-or-l, true-or-r}
+use Rattle.ground.proofs.Decided.{true-or-l, true-or-r}
 use Rattle.masks.proofs.Laws.{has-set}
 use Rattle.slots.specs.Tests.{marked, Marking}
 use Rattle.slots.proofs.sound.mark.Statement.{statement}

@@ -2,7 +2,7 @@
 use mathlib.Core.Path.{sym, _∙_}
 use native.Mathlib.Omega.{arith}
 use borrow.Author.Needs.{needs}
-use Rattle.masks.proofs.Decided.{clash, yes-not, no-not}
+use Rattle.ground.proofs.Decided.{clash, yes-not, no-not}
 use Rattle.slots.proofs.sound.sound_alone.Statement.{statement}
 use Rattle.slots.proofs.sound.sound_alone.Tie as tie
 

@@ -5,7 +5,7 @@ use mathlib.Core.Logic.{⊎-elim}
 use native.Mathlib.Omega.{arith}
 use borrow.Author.Count.{below-none, below-more}
 use borrow.Author.Needs.{needs}
-use Rattle.masks.proofs.Decided.{clash}
+use Rattle.ground.proofs.Decided.{clash}
 use Rattle.slots.specs.Words.{Carries}
 use Rattle.slots.proofs.walks.find.Statement.{statement}
 use Rattle.slots.proofs.walks.find.Tie as tie

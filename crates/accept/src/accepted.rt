@@ -1,0 +1,59 @@
+// The slots with a new patch in one of them; a hard creation turns the block's soft patches hard.
+ghost use mathlib.Core.Path.{_≡_};
+ghost use Rattle.rules.specs.declared.Hold.the-variants.{Hard};
+ghost use Rattle.rules.specs.Slots.{withState};
+ghost use Rattle.rules.specs.Table.{slotAt, slotsBy};
+ghost use Rattle.rules.specs.Create.{turnedState, turned, acceptedSlots};
+use slots::slot::with_state;
+use rules::Hold;
+use rules::Slot;
+use rules::State;
+
+// A waiting patch becomes hard, and has no room any more.
+fn turned_state(u: State) -> State
+    ensures { λ r. ⌜ r ≡ turnedState u ⌝ }
+{
+    match u {
+        State::Free => State::Free,
+        State::Waiting(_) => State::Waiting(Hold::Hard),
+        State::InFlight(k) => State::InFlight(k),
+    }
+}
+
+// A slot of the block as a hard creation leaves it.
+fn turned_slot(s: Slot) -> Slot
+    ensures { λ r. ⌜ r ≡ withState (turnedState (s .state)) s ⌝ }
+{
+    let u = s.state;
+    with_state(s, turned_state(u))
+}
+
+// All slots as a hard creation on the block leaves them.
+fn turned_all(slots: [Slot; 64], block: u32) -> [Slot; 64]
+    ensures { λ r. ⌜ r ≡ slotsBy (λ i. turned Hard block (slotAt slots i)) ⌝ }
+{
+    let mut next = slots;
+    for i in 0..64 {
+        let s = next[i];
+        if s.block != block {
+            continue;
+        }
+        let t = turned_slot(s);
+        next[i] = t;
+    }
+    next
+}
+
+// The slots with the patch in slot j.
+pub fn accepted(slots: [Slot; 64], patch: Slot, j: usize, hold: Hold) -> [Slot; 64]
+    ensures { λ r. ⌜ r ≡ acceptedSlots slots patch j hold ⌝ }
+{
+    let mut next = slots;
+    if let Hold::Hard = hold {
+        next = turned_all(slots, patch.block);
+    }
+    if j < 64 {
+        next[j] = patch;
+    }
+    next
+}

@@ -1,0 +1,2 @@
+-- What it is to decide a question.
+pub mod Decides

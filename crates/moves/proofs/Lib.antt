@@ -1,2 +1,0 @@
--- What the proofs of the walks share.
-pub mod Walked
