@@ -12,7 +12,7 @@ use Rattle.rules.specs.Sizes.{slots, rooms}
 use Rattle.rules.specs.Slots.{hasRoom}
 use Rattle.rules.specs.Table.{slotAt}
 use Rattle.rules.specs.Create.{WouldBeHard, HoldOf, FreeRoom}
-use Rattle.slots.specs.Words.{takenRooms}
+use Rattle.slots.specs.Walks.{takenRooms}
 use Rattle.accept.specs.declared.types.Holding.{Holding}
 use Rattle.accept.specs.declared.types.Holding.the-variants as holding
 use Rattle.masks.specs.Lowest.{Outside}

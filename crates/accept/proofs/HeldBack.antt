@@ -13,7 +13,7 @@ use Rattle.rules.specs.declared.Slot.{Slot}
 use Rattle.rules.specs.Sizes.{slots}
 use Rattle.rules.specs.Table.{slotAt, used, waitsOn}
 use Rattle.rules.specs.Create.{holdsBack, WouldBeHard}
-use Rattle.accept.specs.Tests.{HoldsBack}
+use Rattle.accept.specs.OneSlot.{HoldsBack}
 
 module _ (ss : List Slot) (b : ℕ) {m : ℕ} (is-waiting : m ≡ setOf (waitsOn ss b)) where
   waits : (i : ℕ) → i < slots → has m i ≡ waitsOn ss b i

@@ -2,7 +2,7 @@
 ghost use mathlib.Core.Path.{_≡_};
 ghost use Prim.Native.Nat.{_<_, _^_};
 ghost use Rattle.rules.specs.Create.{isIn, shares, befores};
-ghost use Rattle.accept.specs.Tests.{follows};
+ghost use Rattle.accept.specs.OneSlot.{follows};
 use rules::Slot;
 use slots::words::is_used;
 

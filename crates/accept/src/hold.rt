@@ -2,7 +2,7 @@
 ghost use Rattle.ground.specs.Decides.{Decides};
 ghost use Rattle.rules.specs.Create.{WouldBeHard};
 ghost use Rattle.accept.specs.Asked.{Held};
-ghost use Rattle.accept.specs.Tests.{HoldsBack};
+ghost use Rattle.accept.specs.OneSlot.{HoldsBack};
 use crate::types::Holding;
 use rules::Hold;
 use rules::Slot;

@@ -2,5 +2,5 @@
 // bytes that the caller keeps, also over the radio's sleep; specs/Layout.antt says what they mean.
 // No function asks anything of its caller: bytes that are no table are refused by number.
 pub mod calls;
-mod read;
-mod write;
+mod from_bytes;
+mod to_bytes;

@@ -1,15 +1,14 @@
 // The write-before cache: the table, and its six calls as methods that take it by value and hand
 // the next one back with the answer. Each call refuses what is wrong in the order of document 01
-// and asks nothing of its caller.
+// and asks nothing of its caller. This file has the types alone, so that the definitions by which
+// the calls promise can name them.
 mod ask;
 mod complete;
 mod create;
+mod next;
 mod open;
 mod write;
 
-ghost use mathlib.Core.Path.{_≡_};
-ghost use Rattle.rules.specs.Table.{withSlots};
-ghost use Rattle.cache.specs.Seen.{seen};
 use rules::Answer;
 use rules::CreateAnswer;
 use rules::Slot;
@@ -41,15 +40,4 @@ pub struct Written {
 pub struct Completed {
     pub table: Table,
     pub answer: Answer,
-}
-
-impl Table {
-    // The table with other slots.
-    fn with_slots(self, slots: [Slot; 64]) -> Table
-        ensures { λ r. ⌜ seen r ≡ withSlots slots (seen self) ⌝ }
-    {
-        let mut next = self;
-        next.slots = slots;
-        next
-    }
 }

@@ -1,7 +1,7 @@
 // Write: the largest set of the block's waiting patches that may go, goes.
 ghost use Rattle.rules.specs.Refusals.{writeCases};
 ghost use Rattle.rules.specs.Calls.{Writes};
-ghost use Rattle.slots.specs.Words.{PatchesOn};
+ghost use Rattle.slots.specs.Walks.{PatchesOn};
 ghost use Rattle.cache.specs.Seen.{seen, writing};
 ghost use Rattle.cache.specs.Judged.{Judged, WriteReady};
 use crate::Table;

@@ -7,9 +7,9 @@ use mathlib.Core.Path.{_≡_, refl, sym, _∙_, ap, subst}
 use mathlib.Core.Bool.{Bool, true, false, cond}
 use mathlib.Core.List.{List, []}
 use mathlib.Core.Logic.{inl}
-use Rattle.cut.specs.Changes.{Store, Change, after, only, Earlier}
-use Rattle.cut.specs.World.{World, Must, Follows, straight, through, Step, accepts, sends, lands, fails, rests, Opened, Run, none, more}
-use Rattle.cut.specs.Cut.{afterCut, reached, landed, CutSafe}
+use Rattle.cut.specs.Changes.{Store, Logged, after, only, Earlier}
+use Rattle.cut.specs.World.{World, Must, AskedThrough, straight, through, Step, accepts, sends, lands, fails, rests, Begun, Run, none, more}
+use Rattle.cut.specs.Cut.{afterCut, reached, landed, SafeAt}
 use Rattle.cut.proofs.Facts.{clash, same-on-block}
 use Rattle.cut.proofs.Invariant.{Held, done, waits, together, Invariant, carried}
 use Rattle.cut.proofs.Accept.{accept-keeps}
@@ -17,17 +17,17 @@ use Rattle.cut.proofs.Send.{send-keeps}
 use Rattle.cut.proofs.Turn.{land-keeps, fail-keeps, rest-keeps}
 
 module _ {opening : Store} where
-  pub open-invariant : {w : World} → Opened opening w → Invariant opening w
+  pub open-invariant : {w : World} → Begun opening w → Invariant opening w
   unfolding after only
   open-invariant {w} h = record {
     image = λ b i. rw (h .log) (h .working b i);
     onStore = λ b i. rw (h .log) (h .store b i);
     onWay = λ b i. rw (h .log) (h .sent b i);
     kept = rw (h .log) tt;
-    order = λ y x e. nothing y x (subst (λ (l : List Change). Earlier l y x) (h .log) e);
+    order = λ y x e. nothing y x (subst (λ (l : List Logged). Earlier l y x) (h .log) e);
   }
     where
-      nothing : (y x : Change) → Earlier [] y x → Must w y x → Held w y x
+      nothing : (y x : Logged) → Earlier [] y x → Must w y x → Held w y x
       nothing y x e = elim e [ ]
 
   pub step-keeps : {w w′ : World} → Step w w′ → Invariant opening w → Invariant opening w′
@@ -58,19 +58,19 @@ module _ (opening : Store) (w : World) (v : Invariant opening w) (new : ℕ → 
       by false e = v .onStore b i ∙ carried-landed b i false e
 
   -- what holds y back has y land after x, or with it
-  held-lands : (y x : Change) → Held w y x → landed new w y ≡ true → landed new w x ≡ true
+  held-lands : (y x : Logged) → Held w y x → landed new w y ≡ true → landed new w x ≡ true
   unfolding landed reached
   held-lands y x (done a) l = rw a
   held-lands y x (waits a t) l = clash false (rw a at l) refl
   held-lands y x (together a d s t) l = rw (d, ← s) (rw a at l)
 
-  asked-lands : (y x : Change) → landed new w y ≡ true → Follows w y x → landed new w x ≡ true
+  asked-lands : (y x : Logged) → landed new w y ≡ true → AskedThrough w y x → landed new w x ≡ true
   asked-lands y x l (straight a) = held-lands y x (v .order y x (a .earlier) (inl (a .asks))) l
   asked-lands y x l (through {z = z} a f) = asked-lands z x (held-lands y z (v .order y z (a .earlier) (inl (a .asks))) l) f
 
-pub cut-safe : {opening : Store} {w : World} → Invariant opening w → (new : ℕ → Bool) → CutSafe opening w new
+pub cut-safe : {opening : Store} {w : World} → Invariant opening w → (new : ℕ → Bool) → SafeAt opening w new
 cut-safe {opening} {w} v new = record { holds = after-holds opening w v new; closed = asked-lands opening w v new }
 
 -- THE THEOREM
-pub store-after-cut : {opening : Store} {w w′ : World} → Opened opening w → Run w w′ → (new : ℕ → Bool) → CutSafe opening w′ new
+pub store-after-cut : {opening : Store} {w w′ : World} → Begun opening w → Run w w′ → (new : ℕ → Bool) → SafeAt opening w′ new
 store-after-cut o r new = cut-safe (run-keeps r (open-invariant o)) new

@@ -5,7 +5,7 @@ use mathlib.Core.Bool.{Bool, true, false, cond, _&&_, not, true≢false}
 use mathlib.Core.List.{List, [], _∷_, List·Memᴰ, List·Memᴰ·head, List·Memᴰ·tail}
 use mathlib.Core.Logic.{_≢_, _⊎_, inl, inr}
 use lib.Dec.{eqb, T, eqb→eq, eqb-refl}
-use Rattle.cut.specs.Changes.{Store, Change, covers, byteOf, carryOut, after, only, Earlier, here, there}
+use Rattle.cut.specs.Changes.{Store, Logged, covers, byteOf, carryOut, after, only, Earlier, here, there}
 
 -- Booleans
 
@@ -54,22 +54,22 @@ by-block P b its others d = by (same-or-other d b)
 
 -- The order of a log
 
-pub newer-in : {l : List Change} {y x : Change} → Earlier l y x → List·Memᴰ y l
+pub newer-in : {l : List Logged} {y x : Logged} → Earlier l y x → List·Memᴰ y l
 newer-in (here m) = List·Memᴰ·head refl
 newer-in (there e) = List·Memᴰ·tail (newer-in e)
 
-pub older-in : {l : List Change} {y x : Change} → Earlier l y x → List·Memᴰ x l
+pub older-in : {l : List Logged} {y x : Logged} → Earlier l y x → List·Memᴰ x l
 older-in (here m) = List·Memᴰ·tail m
 older-in (there e) = List·Memᴰ·tail (older-in e)
 
 -- One change at one place
 
 -- a change covers places of its own block only
-pub covers-block : (c : Change) (b i : ℕ) → covers c b i ≡ true → c .block ≡ b
+pub covers-block : (c : Logged) (b i : ℕ) → covers c b i ≡ true → c .block ≡ b
 unfolding covers
 covers-block c b i h = sym (eqb-true b (c .block) (and-left (eqb b (c .block)) _ h))
 
-module _ (b i : ℕ) (c : Change) where
+module _ (b i : ℕ) (c : Logged) where
   pub carry-inside : (s : Store) → covers c b i ≡ true → carryOut c s b i ≡ byteOf c i
   unfolding carryOut
   carry-inside s h = rw h
@@ -83,18 +83,18 @@ module _ (b i : ℕ) (c : Change) where
   carry-same s t h = rw h
 
 -- a change that fails the test is not among those that pass it, and one that passes is
-pub only-drops : (p : Change → Bool) (c : Change) (l : List Change) → p c ≡ false → only p (c ∷ l) ≡ only p l
+pub only-drops : (p : Logged → Bool) (c : Logged) (l : List Logged) → p c ≡ false → only p (c ∷ l) ≡ only p l
 unfolding only
 only-drops p c l e = rw e
 
-pub only-takes : (p : Change → Bool) (c : Change) (l : List Change) → p c ≡ true → only p (c ∷ l) ≡ c ∷ only p l
+pub only-takes : (p : Logged → Bool) (c : Logged) (l : List Logged) → p c ≡ true → only p (c ∷ l) ≡ c ∷ only p l
 unfolding only
 only-takes p c l e = rw e
 
 -- Two tests at one place: what a log gives there hangs on the changes that cover the place, and on no other.
 
-module _ (b i : ℕ) (p q : Change → Bool) (s : Store) where
-  same-step : (c : Change) (l : List Change)
+module _ (b i : ℕ) (p q : Logged → Bool) (s : Store) where
+  same-step : (c : Logged) (l : List Logged)
       → (covers c b i ≡ true → p c ≡ q c)
       → after (only p l) s b i ≡ after (only q l) s b i
       → after (only p (c ∷ l)) s b i ≡ after (only q (c ∷ l)) s b i
@@ -110,15 +110,15 @@ module _ (b i : ℕ) (p q : Change → Bool) (s : Store) where
       by false eu true er true e = clash (p c) (h e ∙ er) eu
       by false eu true er false e = rw (eu, er) (below ∙ sym (carry-outside b i c _ e))
 
-  same-at : (l : List Change)
-      → ((c : Change) → List·Memᴰ c l → covers c b i ≡ true → p c ≡ q c)
+  same-at : (l : List Logged)
+      → ((c : Logged) → List·Memᴰ c l → covers c b i ≡ true → p c ≡ q c)
       → after (only p l) s b i ≡ after (only q l) s b i
   unfolding after only
   same-at [] h = refl
   same-at (c ∷ l) h = same-step c l (h c (List·Memᴰ·head refl)) (same-at l (λ x m. h x (List·Memᴰ·tail m)))
 
   -- so two tests that agree on a block's changes give the same bytes there
-  pub same-on-block : (l : List Change)
-      → ((c : Change) → List·Memᴰ c l → c .block ≡ b → p c ≡ q c)
+  pub same-on-block : (l : List Logged)
+      → ((c : Logged) → List·Memᴰ c l → c .block ≡ b → p c ≡ q c)
       → after (only p l) s b i ≡ after (only q l) s b i
   same-on-block l h = same-at l (λ c m e. h c m (covers-block c b i e))

@@ -5,8 +5,8 @@ use mathlib.Core.Path.{_≡_, sym, _∙_, ap}
 use mathlib.Core.Bool.{Bool, true, false}
 use mathlib.Core.List.{List, List·Memᴰ}
 use mathlib.Core.Logic.{_⊎_, inl, inr}
-use Rattle.cut.specs.Changes.{Store, Change, after, only, Earlier}
-use Rattle.cut.specs.World.{World, State, waiting, inFlight, committed, Must}
+use Rattle.cut.specs.Changes.{Store, Logged, after, only, Earlier}
+use Rattle.cut.specs.World.{World, Stage, waiting, inFlight, committed, Must}
 use Rattle.cut.specs.Cut.{reached}
 use Rattle.cut.proofs.Facts.{clash, same-on-block}
 use Rattle.cut.proofs.TakeBack.{Kept}
@@ -17,7 +17,7 @@ abbrev pub carried : Bool → World → Store → Store
 carried new w opening = after (only (λ c. reached new (w .state c)) (w .log)) opening
 
 -- The ways in which y, that must not reach the store before x, does not.
-pub data Held (w : World) (y x : Change) : Type 0 where
+pub data Held (w : World) (y x : Logged) : Type 0 where
   -- x is on the store for good
   done : w .state x ≡ committed → Held w y x
   -- y has not been sent, and the tie holds it
@@ -27,7 +27,7 @@ pub data Held (w : World) (y x : Change) : Type 0 where
 
 -- All that must follow is held.
 abbrev pub Ordered : World → Type 0
-Ordered w = (y x : Change) → Earlier (w .log) y x → Must w y x → Held w y x
+Ordered w = (y x : Logged) → Earlier (w .log) y x → Must w y x → Held w y x
 
 pub record Invariant (opening : Store) (w : World) : Type 0 where
   -- The working image has every accepted change. A creation that touches a byte outside its range breaks it, or a
@@ -46,33 +46,33 @@ pub record Invariant (opening : Store) (w : World) : Type 0 where
 
 -- A change is in one state.
 
-pub waits-not-done {ℓ} : {A : Type ℓ} {r : State} → r ≡ waiting → r ≡ committed → A
+pub waits-not-done {ℓ} : {A : Type ℓ} {r : Stage} → r ≡ waiting → r ≡ committed → A
 unfolding reached
 waits-not-done {r} a d = clash (reached true r) (ap (reached true) d) (ap (reached true) a)
 
-pub waits-not-off {ℓ} : {A : Type ℓ} {r : State} → r ≡ waiting → r ≡ inFlight → A
+pub waits-not-off {ℓ} : {A : Type ℓ} {r : Stage} → r ≡ waiting → r ≡ inFlight → A
 unfolding reached
 waits-not-off {r} a d = clash (reached true r) (ap (reached true) d) (ap (reached true) a)
 
-pub off-not-done {ℓ} : {A : Type ℓ} {r : State} → r ≡ inFlight → r ≡ committed → A
+pub off-not-done {ℓ} : {A : Type ℓ} {r : Stage} → r ≡ inFlight → r ≡ committed → A
 unfolding reached
 off-not-done {r} a d = clash (reached false r) (ap (reached false) d) (ap (reached false) a)
 
 -- What a step says of the tie holds y, whether y waits or is in flight with x.
 
-pub held-waiting : {w : World} {y x : Change} → w .state y ≡ waiting → (w .state x ≡ committed) ⊎ w .tied y x → Held w y x
+pub held-waiting : {w : World} {y x : Logged} → w .state y ≡ waiting → (w .state x ≡ committed) ⊎ w .tied y x → Held w y x
 held-waiting a (inl k) = done k
 held-waiting a (inr t) = waits a t
 
-pub held-together : {w : World} {y x : Change} → w .state y ≡ inFlight → w .state x ≡ inFlight → y .block ≡ x .block
+pub held-together : {w : World} {y x : Logged} → w .state y ≡ inFlight → w .state x ≡ inFlight → y .block ≡ x .block
     → (w .state x ≡ committed) ⊎ w .tied y x → Held w y x
 held-together a d s (inl k) = done k
 held-together a d s (inr t) = together a d s t
 
 -- The bytes that the log gives on a block are the same in two worlds where the block's changes are as far.
 pub carried-same : (w w′ : World) (opening : Store) → w′ .log ≡ w .log → (new new′ : Bool) (b i : ℕ)
-    → ((x : Change) → List·Memᴰ x (w .log) → x .block ≡ b → reached new (w .state x) ≡ reached new′ (w′ .state x))
+    → ((x : Logged) → List·Memᴰ x (w .log) → x .block ≡ b → reached new (w .state x) ≡ reached new′ (w′ .state x))
     → carried new w opening b i ≡ carried new′ w′ opening b i
 carried-same w w′ opening e new new′ b i h =
     same-on-block b i _ _ opening (w .log) h
-    ∙ ap (λ (l : List Change). after (only (λ c. reached new′ (w′ .state c)) l) opening b i) (sym e)
+    ∙ ap (λ (l : List Logged). after (only (λ c. reached new′ (w′ .state c)) l) opening b i) (sym e)

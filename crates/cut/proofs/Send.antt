@@ -5,22 +5,22 @@ use mathlib.Core.Bool.{Bool, true, false, _&&_, not}
 use mathlib.Core.List.{List, List·Memᴰ}
 use mathlib.Core.Logic.{_≢_, _⊎_, inl, inr}
 use lib.Dec.{eqb}
-use Rattle.cut.specs.Changes.{Store, Change, after, only, Earlier}
-use Rattle.cut.specs.World.{World, State, waiting, inFlight, committed, isWaiting, left, Must, Sends}
+use Rattle.cut.specs.Changes.{Store, Logged, after, only, Earlier}
+use Rattle.cut.specs.World.{World, Stage, waiting, inFlight, committed, isWaiting, left, Must, SendStep}
 use Rattle.cut.specs.Cut.{reached}
 use Rattle.cut.proofs.Facts.{clash, and-left, and-right, not-true, eqb-true, eqb-same, by-block, newer-in, older-in, covers-block, same-on-block}
 use Rattle.cut.proofs.TakeBack.{NoneOver, kept-fewer, take-gives-rest}
 use Rattle.cut.proofs.Invariant.{Held, done, waits, together, Invariant, carried, carried-same, held-waiting, held-together, waits-not-done, waits-not-off, off-not-done}
 use Rattle.cut.proofs.Order.{must-before}
 
-is-waiting : (r : State) → isWaiting r ≡ true → r ≡ waiting
+is-waiting : (r : Stage) → isWaiting r ≡ true → r ≡ waiting
 unfolding isWaiting
 is-waiting waiting e = refl
 is-waiting inFlight e = clash false e refl
 is-waiting committed e = clash false e refl
 
 -- a change that is left behind waits on the block and does not go, and the other way round
-left-is : (b : ℕ) (go : Change → Bool) (w : World) (x : Change) → left b go w x ≡ true → (x .block ≡ b) × (w .state x ≡ waiting) × (go x ≡ false)
+left-is : (b : ℕ) (go : Logged → Bool) (w : World) (x : Logged) → left b go w x ≡ true → (x .block ≡ b) × (w .state x ≡ waiting) × (go x ≡ false)
 unfolding left
 left-is b go w x e =
     let r = and-right (eqb (x .block) b) _ e in (
@@ -29,17 +29,17 @@ left-is b go w x e =
       not-true (go x) (and-right (isWaiting (w .state x)) _ r),
     )
 
-is-left : (b : ℕ) (go : Change → Bool) (w : World) (x : Change) → x .block ≡ b → w .state x ≡ waiting → go x ≡ false → left b go w x ≡ true
+is-left : (b : ℕ) (go : Logged → Bool) (w : World) (x : Logged) → x .block ≡ b → w .state x ≡ waiting → go x ≡ false → left b go w x ≡ true
 unfolding left isWaiting
 is-left b go w x s a g = rw (eqb-same (x .block) b s, a, g)
 
-module _ (b : ℕ) (go : Change → Bool) (w w′ : World) (h : Sends b go w w′) (opening : Store) (v : Invariant opening w) where
+module _ (b : ℕ) (go : Logged → Bool) (w w′ : World) (h : SendStep b go w w′) (opening : Store) (v : Invariant opening w) where
   -- the cases of a change of the log: it goes, or it is where it was
-  data Fate (x : Change) : Type 0 where
+  data Fate (x : Logged) : Type 0 where
     off : go x ≡ true → w .state x ≡ waiting → w′ .state x ≡ inFlight → x .block ≡ b → Fate x
     stays : go x ≡ false → w′ .state x ≡ w .state x → Fate x
 
-  fate : (x : Change) → List·Memᴰ x (w .log) → Fate x
+  fate : (x : Logged) → List·Memᴰ x (w .log) → Fate x
   fate x m = by (go x) refl
     where
       by : (r : Bool) → go x ≡ r → Fate x
@@ -48,14 +48,14 @@ module _ (b : ℕ) (go : Change → Bool) (w w′ : World) (h : Sends b go w w�
 
   -- What must follow is held: a member of the set has what it is tied to on the store, or beside it in the write.
 
-  off-held : (y x : Change) → w′ .state y ≡ inFlight → y .block ≡ b → (w′ .state x ≡ committed) ⊎ w′ .tied y x
+  off-held : (y x : Logged) → w′ .state y ≡ inFlight → y .block ≡ b → (w′ .state x ≡ committed) ⊎ w′ .tied y x
       → Fate x → (w .state x ≡ committed) ⊎ (go x ≡ true) → Held w′ y x
   off-held y x d s t (stays gx ax) (inl q) = done (ax ∙ q)
   off-held y x d s t (stays gx ax) (inr q) = clash (go x) q gx
   off-held y x d s t (off gx ax dx sx) (inl q) = waits-not-done ax q
   off-held y x d s t (off gx ax dx sx) (inr q) = held-together d dx (s ∙ sym sx) t
 
-  held-still : (y x : Change) → Earlier (w .log) y x → Must w y x → Fate y → Fate x → Held w y x → Held w′ y x
+  held-still : (y x : Logged) → Earlier (w .log) y x → Must w y x → Fate y → Fate x → Held w y x → Held w′ y x
   held-still y x e m (off g a d s) fx (waits k t) =
       off-held y x d s (h .oldTies y x e m (λ f. off-not-done d f) t) fx (h .goTied y x (newer-in e) (older-in e) g t)
   held-still y x e m (stays g a) fx (waits k t) = held-waiting (a ∙ k) (h .oldTies y x e m (λ f. waits-not-done (a ∙ k) f) t)
@@ -69,7 +69,7 @@ module _ (b : ℕ) (go : Change → Bool) (w w′ : World) (h : Sends b go w w�
   -- The bytes.
 
   -- no change commits by being sent
-  done-same : (x : Change) → List·Memᴰ x (w .log) → reached false (w .state x) ≡ reached false (w′ .state x)
+  done-same : (x : Logged) → List·Memᴰ x (w .log) → reached false (w .state x) ≡ reached false (w′ .state x)
   unfolding reached
   done-same x m = by (fate x m)
     where
@@ -78,11 +78,11 @@ module _ (b : ℕ) (go : Change → Bool) (w w′ : World) (h : Sends b go w w�
       by (stays g a) = rw a
 
   -- on the block, what is not left behind is on its way or there afterwards
-  gone-here : (x : Change) → List·Memᴰ x (w .log) → x .block ≡ b → not (left b go w x) ≡ reached true (w′ .state x)
+  gone-here : (x : Logged) → List·Memᴰ x (w .log) → x .block ≡ b → not (left b go w x) ≡ reached true (w′ .state x)
   unfolding reached isWaiting left
   gone-here x m s = by (fate x m)
     where
-      at : (r : State) → not (true && (isWaiting r && not false)) ≡ reached true r
+      at : (r : Stage) → not (true && (isWaiting r && not false)) ≡ reached true r
       at waiting = refl
       at inFlight = refl
       at committed = refl
@@ -92,7 +92,7 @@ module _ (b : ℕ) (go : Change → Bool) (w w′ : World) (h : Sends b go w w�
       by (stays g a) = rw (eqb-same (x .block) b s, g, a) (at (w .state x))
 
   -- elsewhere nothing goes
-  gone-there : (x : Change) → List·Memᴰ x (w .log) → x .block ≢ b → reached true (w .state x) ≡ reached true (w′ .state x)
+  gone-there : (x : Logged) → List·Memᴰ x (w .log) → x .block ≢ b → reached true (w .state x) ≡ reached true (w′ .state x)
   gone-there x m s = by (fate x m)
     where
       by : Fate x → reached true (w .state x) ≡ reached true (w′ .state x)
@@ -127,7 +127,7 @@ module _ (b : ℕ) (go : Change → Bool) (w w′ : World) (h : Sends b go w w�
       (kept-fewer (w .kept) (left b go w) (w .undo) (w .undo) opening (w .log) (λ x m e. (h .leftKept x m e, λ i. refl)) (v .kept))
       (none-over i) (w .working) (v .image b i)
       ∙ (same-on-block b i _ (λ x. reached true (w′ .state x)) opening (w .log) gone-here
-      ∙ ap (λ (l : List Change). after (only (λ x. reached true (w′ .state x)) l) opening b i) (sym (h .log))))
+      ∙ ap (λ (l : List Logged). after (only (λ x. reached true (w′ .state x)) l) opening b i) (sym (h .log))))
 
   pub send-keeps : Invariant opening w′
   send-keeps = record {
@@ -137,7 +137,7 @@ module _ (b : ℕ) (go : Change → Bool) (w w′ : World) (h : Sends b go w w�
         (λ d n i. h .others d i n ∙ (v .onWay d i ∙ carried-same w w′ opening (h .log) true true d i (λ x m s. gone-there x m (λ p. n (sym s ∙ p)))));
     kept = rw (h .log) (kept-fewer _ _ _ _ _ _ (h .oldUndo) (v .kept));
     order = λ y x e m.
-        let e′ = subst (λ (l : List Change). Earlier l y x) (h .log) e in
+        let e′ = subst (λ (l : List Logged). Earlier l y x) (h .log) e in
         let m′ = must-before w w′ (h .asks) e′ m in
         held-still y x e′ m′ (fate y (newer-in e′)) (fate x (older-in e′)) (v .order y x e′ m′);
   }

@@ -6,8 +6,8 @@ use mathlib.Core.Bool.{Bool, true, false, cond}
 use mathlib.Core.List.{List·Memᴰ}
 use mathlib.Core.Logic.{_≢_}
 use lib.Dec.{eqb}
-use Rattle.cut.specs.Changes.{Store, Change}
-use Rattle.cut.specs.World.{World, State, waiting, inFlight, committed, settled, fallen, KeepsUndo, KeepsTies, AddsNoAsk, Lands, Fails, Rests}
+use Rattle.cut.specs.Changes.{Store, Logged}
+use Rattle.cut.specs.World.{World, Stage, waiting, inFlight, committed, settled, fallen, KeepsUndo, KeepsTies, AddsNoAsk, LandStep, FailStep, RestStep}
 use Rattle.cut.specs.Cut.{reached}
 use Rattle.cut.proofs.Facts.{clash, eqb-true, eqb-same, by-block}
 use Rattle.cut.proofs.TakeBack.{kept-fewer}
@@ -15,11 +15,11 @@ use Rattle.cut.proofs.Invariant.{Invariant, carried, carried-same}
 use Rattle.cut.proofs.Order.{Moves, ordered-still}
 
 -- What the three have in common.
-record Turned (b : ℕ) (turn : State → State) (w w′ : World) : Type 1 where
+record Turned (b : ℕ) (turn : Stage → Stage) (w w′ : World) : Type 1 where
   waitsStill : turn waiting ≡ waiting
   doneStill : turn committed ≡ committed
-  its : (x : Change) → List·Memᴰ x (w .log) → x .block ≡ b → w′ .state x ≡ turn (w .state x)
-  other : (x : Change) → List·Memᴰ x (w .log) → x .block ≢ b → w′ .state x ≡ w .state x
+  its : (x : Logged) → List·Memᴰ x (w .log) → x .block ≡ b → w′ .state x ≡ turn (w .state x)
+  other : (x : Logged) → List·Memᴰ x (w .log) → x .block ≢ b → w′ .state x ≡ w .state x
   working : (d i : ℕ) → w′ .working d i ≡ w .working d i
   log : w′ .log ≡ w .log
   undo : KeepsUndo w w′
@@ -27,22 +27,22 @@ record Turned (b : ℕ) (turn : State → State) (w w′ : World) : Type 1 where
   asks : AddsNoAsk w w′
 
 -- only the changes of block b turn
-turnIn : ℕ → (State → State) → ℕ → State → State
+turnIn : ℕ → (Stage → Stage) → ℕ → Stage → Stage
 turnIn b turn d r = cond (eqb d b) (turn r) r
 
-module _ (b : ℕ) (turn : State → State) (w w′ : World) (h : Turned b turn w w′) (opening : Store) where
+module _ (b : ℕ) (turn : Stage → Stage) (w w′ : World) (h : Turned b turn w w′) (opening : Store) where
   block-moves : Moves (turnIn b turn) w w′
   unfolding turnIn
   block-moves = record { waitsStill = λ d. at d waiting (h .waitsStill); doneStill = λ d. at d committed (h .doneStill); moves = to }
     where
-      at : (d : ℕ) (r : State) → turn r ≡ r → cond (eqb d b) (turn r) r ≡ r
+      at : (d : ℕ) (r : Stage) → turn r ≡ r → cond (eqb d b) (turn r) r ≡ r
       at d r e = by (eqb d b)
         where
           by : (v : Bool) → cond v (turn r) r ≡ r
           by true = e
           by false = refl
 
-      to : (x : Change) → List·Memᴰ x (w .log) → w′ .state x ≡ cond (eqb (x .block) b) (turn (w .state x)) (w .state x)
+      to : (x : Logged) → List·Memᴰ x (w .log) → w′ .state x ≡ cond (eqb (x .block) b) (turn (w .state x)) (w .state x)
       to x m = by (eqb (x .block) b) refl
         where
           by : (v : Bool) → eqb (x .block) b ≡ v → w′ .state x ≡ cond v (turn (w .state x)) (w .state x)
@@ -50,7 +50,7 @@ module _ (b : ℕ) (turn : State → State) (w w′ : World) (h : Turned b turn 
           by false e = h .other x m (λ s. clash (eqb (x .block) b) (eqb-same (x .block) b s) e)
 
   -- the bytes of the block, when its changes are as far after the turn as before
-  carried-here : (new new′ : Bool) → ((r : State) → reached new r ≡ reached new′ (turn r)) → (i : ℕ)
+  carried-here : (new new′ : Bool) → ((r : Stage) → reached new r ≡ reached new′ (turn r)) → (i : ℕ)
       → carried new w opening b i ≡ carried new′ w′ opening b i
   carried-here new new′ far i = carried-same w w′ opening (h .log) new new′ b i
       (λ x m s. far (w .state x) ∙ ap (reached new′) (sym (h .its x m s)))
@@ -61,7 +61,7 @@ module _ (b : ℕ) (turn : State → State) (w w′ : World) (h : Turned b turn 
       (λ x m s. ap (reached new) (sym (h .other x m (λ p. n (sym s ∙ p)))))
 
   -- both
-  carried-still : (new : Bool) → ((r : State) → reached new r ≡ reached new (turn r)) → (d i : ℕ)
+  carried-still : (new : Bool) → ((r : Stage) → reached new r ≡ reached new (turn r)) → (d i : ℕ)
       → carried new w opening d i ≡ carried new w′ opening d i
   carried-still new far = by-block (λ d. (i : ℕ) → carried new w opening d i ≡ carried new w′ opening d i) b
       (carried-here new new far) (carried-there new)
@@ -81,31 +81,31 @@ module _ (b : ℕ) (turn : State → State) (w w′ : World) (h : Turned b turn 
 
 -- What counts as reached, before a turn and after it.
 
-sent-is-there : (r : State) → reached true r ≡ reached false (settled r)
+sent-is-there : (r : Stage) → reached true r ≡ reached false (settled r)
 unfolding reached settled
 sent-is-there waiting = refl
 sent-is-there inFlight = refl
 sent-is-there committed = refl
 
-sent-is-sent : (r : State) → reached true r ≡ reached true (settled r)
+sent-is-sent : (r : Stage) → reached true r ≡ reached true (settled r)
 unfolding reached settled
 sent-is-sent waiting = refl
 sent-is-sent inFlight = refl
 sent-is-sent committed = refl
 
-there-is-sent : (r : State) → reached false r ≡ reached true (fallen r)
+there-is-sent : (r : Stage) → reached false r ≡ reached true (fallen r)
 unfolding reached fallen
 there-is-sent waiting = refl
 there-is-sent inFlight = refl
 there-is-sent committed = refl
 
-there-is-there : (r : State) → reached false r ≡ reached false (fallen r)
+there-is-there : (r : Stage) → reached false r ≡ reached false (fallen r)
 unfolding reached fallen
 there-is-there waiting = refl
 there-is-there inFlight = refl
 there-is-there committed = refl
 
-module _ (b : ℕ) (w w′ : World) (h : Lands b w w′) (opening : Store) (v : Invariant opening w) where
+module _ (b : ℕ) (w w′ : World) (h : LandStep b w w′) (opening : Store) (v : Invariant opening w) where
   land-turns : Turned b settled w w′
   unfolding settled
   land-turns = record {
@@ -127,7 +127,7 @@ module _ (b : ℕ) (w w′ : World) (h : Lands b w w′) (opening : Store) (v : 
       (λ d n i. h .others d i n ∙ (v .onStore d i ∙ carried-there b settled w w′ land-turns opening false d n i)))
       (λ d i. h .sent d i ∙ (v .onWay d i ∙ carried-still b settled w w′ land-turns opening true sent-is-sent d i))
 
-module _ (b : ℕ) (w w′ : World) (h : Fails b w w′) (opening : Store) (v : Invariant opening w) where
+module _ (b : ℕ) (w w′ : World) (h : FailStep b w w′) (opening : Store) (v : Invariant opening w) where
   fail-turns : Turned b fallen w w′
   unfolding fallen
   fail-turns = record {
@@ -150,7 +150,7 @@ module _ (b : ℕ) (w w′ : World) (h : Fails b w w′) (opening : Store) (v : 
       (λ d n i. h .others d i n ∙ (v .onWay d i ∙ carried-there b fallen w w′ fail-turns opening true d n i)))
 
 -- A call that changes nothing turns no block; the turn that leaves every state is taken at block 0.
-module _ (w w′ : World) (h : Rests w w′) (opening : Store) (v : Invariant opening w) where
+module _ (w w′ : World) (h : RestStep w w′) (opening : Store) (v : Invariant opening w) where
   rest-turns : Turned 0 (λ r. r) w w′
   rest-turns = record {
     waitsStill = refl;

@@ -14,7 +14,7 @@ abbrev pub Store : Type 0
 Store = ℕ → ℕ → ℕ
 
 -- One accepted change. Several may have one number, and two may be equal in every field.
-pub record Change : Type 0 where
+pub record Logged : Type 0 where
   -- the number that the change was answered
   pub number : ℕ
   -- the one block it writes to
@@ -25,36 +25,36 @@ pub record Change : Type 0 where
   pub bytes : List ℕ
 
 -- Does the change write place i of block b?
-unfoldable pub covers : Change → ℕ → ℕ → Bool
+unfoldable pub covers : Logged → ℕ → ℕ → Bool
 covers c b i = eqb b (c .block) && (leb (c .offset) i && ltb i (c .offset + length (c .bytes)))
 
 -- The byte that the change writes at place i of its block, if it covers the place.
-abbrev pub byteOf : Change → ℕ → ℕ
+abbrev pub byteOf : Logged → ℕ → ℕ
 byteOf c i = getD (c .bytes) (i - c .offset) 0
 
 -- One change carried out: its own byte where it covers the place, and what was there elsewhere.
-unfoldable pub carryOut : Change → Store → Store
+unfoldable pub carryOut : Logged → Store → Store
 carryOut c s b i = cond (covers c b i) (byteOf c i) (s b i)
 
 -- The changes of a log carried out singly, in the order accepted. A log has its newest change first.
-unfoldable pub after : List Change → Store → Store
+unfoldable pub after : List Logged → Store → Store
 after [] s = s
 after (c ∷ older) s = carryOut c (after older s)
 
 -- Those changes of a log that pass a test, in their order.
-unfoldable pub only : (Change → Bool) → List Change → List Change
+unfoldable pub only : (Logged → Bool) → List Logged → List Logged
 only test [] = []
 only test (c ∷ older) = cond (test c) (c ∷ only test older) (only test older)
 
 -- In this log x was accepted before y. (A change that was accepted twice may be earlier than itself.)
-pub data Earlier : List Change → Change → Change → Type 0 where
+pub data Earlier : List Logged → Logged → Logged → Type 0 where
   -- y is the newest change, and x is among the older ones
-  here : {c x : Change} {older : List Change} → List·Memᴰ x older → Earlier (c ∷ older) c x
+  here : {c x : Logged} {older : List Logged} → List·Memᴰ x older → Earlier (c ∷ older) c x
   -- or both are among the older ones, in this order
-  there : {c y x : Change} {older : List Change} → Earlier older y x → Earlier (c ∷ older) y x
+  there : {c y x : Logged} {older : List Logged} → Earlier older y x → Earlier (c ∷ older) y x
 
 -- The two changes share a byte: there is a place that both cover.
-pub record Share (y x : Change) : Type 0 where
+pub record Share (y x : Logged) : Type 0 where
   -- the block of the shared byte
   pub inBlock : ℕ
   -- its place in that block

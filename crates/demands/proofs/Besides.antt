@@ -20,8 +20,8 @@ use Rattle.demands.specs.Demand3.{sentIn, NotesTrue}
 use Rattle.demands.proofs.Log.{number-taken, named-earlier}
 use Rattle.demands.proofs.Notes.{sent-in-both, mem-left}
 use Rattle.demands.proofs.Lookup.{slotOf, carries-used, carries-number, carries-of, at-slot, no-slot}
-use Rattle.demands.proofs.Words.{stateAt, wordOf, isDone, isOut, waiting-word, flying-word, out-flies}
-use Rattle.demands.proofs.Radio.{Good, none-out}
+use Rattle.demands.proofs.AtSlot.{stateAt, wordOf, isDone, isOut, waiting-word, flying-word, out-flies}
+use Rattle.demands.proofs.Good.{Good, none-out}
 
 -- a write that is noted sent what it sent
 noted-sent : (n : ℕ) (ws : List Sent) (w : Sent) → List·Memᴰ w ws → isIn n (w .numbers) ≡ true → sentIn n ws ≡ true

@@ -18,7 +18,7 @@ use Rattle.cut.proofs.Core.{open-invariant}
 use Rattle.demands.specs.History.{History, Call, Happened, begun, afterCreate, afterWrite, afterComplete}
 use Rattle.demands.specs.Demand3.{written, timesSent}
 use Rattle.demands.proofs.Log.{Numbered, oldest-in, newer-in}
-use Rattle.demands.proofs.Radio.{Good}
+use Rattle.demands.proofs.Good.{Good}
 use Rattle.demands.proofs.Create.Leaves.{created-good}
 use Rattle.demands.proofs.Write.Leaves.{gone-good}
 use Rattle.demands.proofs.Complete.Leaves.{landed-good}

@@ -3,9 +3,9 @@ pub mod Log
 pub mod Views
 pub mod Notes
 pub mod Lookup
-pub mod Words
+pub mod AtSlot
 pub mod Linked
-pub mod Radio
+pub mod Good
 pub mod Create
 pub mod Complete
 pub mod Write

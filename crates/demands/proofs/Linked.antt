@@ -14,14 +14,14 @@ use Rattle.rules.specs.Table.{slotAt, used}
 use Rattle.rules.specs.Create.{overlaps}
 use Rattle.rules.proofs.Words.{roomed-used, room-is}
 use Rattle.rules.proofs.StaysSound.{Like}
-use Rattle.cut.specs.Changes.{Change, Share}
+use Rattle.cut.specs.Changes.{Logged, Share}
 use Rattle.demands.specs.History.{Accepted}
 use Rattle.demands.proofs.Log.{plain, Oldest, Once}
 use Rattle.demands.proofs.Lookup.{carries, slotOf, carries-used, carries-number, carries-of}
-use Rattle.demands.proofs.Words.{roomed, roomedAt, roomAt, roomedOf, roomFor}
+use Rattle.demands.proofs.AtSlot.{roomed, roomedAt, roomAt, roomedOf, roomFor}
 
 -- the slot has the change's range
-pub record Range (s : Slot) (c : Change) : Type 0 where
+pub record Range (s : Slot) (c : Logged) : Type 0 where
   pub offset : s .offset ≡ c .offset
   pub len : s .len ≡ length (c .bytes)
 
@@ -53,7 +53,7 @@ module _ (ss ss′ : List Slot) (i : ℕ) (k : Like (slotAt ss′ i) (slotAt ss 
   pub carries-still : (n : ℕ) → carries ss n i ≡ true → carries ss′ n i ≡ true
   carries-still n e = carries-of ss′ n i (k .used ∙ carries-used ss n i e) (k .number ∙ carries-number ss n i e)
 
-  pub range-still : (c : Change) → Range (slotAt ss i) c → Range (slotAt ss′ i) c
+  pub range-still : (c : Logged) → Range (slotAt ss i) c → Range (slotAt ss′ i) c
   range-still c r = record { offset = k .offset ∙ r .offset; len = k .len ∙ r .len }
 
   pub overlaps-still : (y : Accepted) → overlaps ss (y .change) i ≡ true → overlaps ss′ (y .change) i ≡ true

@@ -8,13 +8,13 @@ use mathlib.Core.List.{List, [], _∷_, map, List·Memᴰ, List·Memᴰ·head, L
 use mathlib.Core.Logic.{_≢_, _⊎_, inl, inr}
 use Rattle.rules.specs.Create.{isIn}
 use Rattle.cut.specs.Changes as cut
-use Rattle.cut.specs.Changes.{Change}
+use Rattle.cut.specs.Changes.{Logged}
 use Rattle.cut.proofs.Facts.{same-or-other}
 use Rattle.demands.specs.History.{Accepted}
 use Rattle.demands.specs.Demand3.{Earlier}
 
 -- an accepted change as `cut` has it
-abbrev pub plain : Accepted → Change
+abbrev pub plain : Accepted → Logged
 plain a = record { number = a .number; block = a .change .block; offset = a .change .offset; bytes = a .change .bytes }
 
 -- ---- how a log is numbered
@@ -127,11 +127,11 @@ earlier-log y x (Earlier.here m) = cut.Earlier.here (in-log x m)
 earlier-log y x (Earlier.there e) = cut.Earlier.there (earlier-log y x e)
 
 -- a change of the log is an accepted one
-pub of-log : (l : List Accepted) (x : Change) → List·Memᴰ x (map plain l) → (a : Accepted) × List·Memᴰ a l × (plain a ≡ x)
+pub of-log : (l : List Accepted) (x : Logged) → List·Memᴰ x (map plain l) → (a : Accepted) × List·Memᴰ a l × (plain a ≡ x)
 of-log [] x m = elim m [ ]
 of-log (a ∷ l) x (List·Memᴰ·head e) = (a, List·Memᴰ·head refl, sym e)
 of-log (a ∷ l) x (List·Memᴰ·tail m) = let r = of-log l x m in (r .0, List·Memᴰ·tail (r .1), r .2)
 
 -- what holds of every accepted change holds of every change of the log
-pub on-log : (l : List Accepted) (P : Change → Type 0) → ((a : Accepted) → List·Memᴰ a l → P (plain a)) → (x : Change) → List·Memᴰ x (map plain l) → P x
+pub on-log : (l : List Accepted) (P : Logged → Type 0) → ((a : Accepted) → List·Memᴰ a l → P (plain a)) → (x : Logged) → List·Memᴰ x (map plain l) → P x
 on-log l P f x m = let r = of-log l x m in subst P (r .2) (f (r .0) (r .1))

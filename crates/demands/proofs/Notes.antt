@@ -13,14 +13,14 @@ use Rattle.spans.specs.Spans.{splice}
 use Rattle.spans.proofs.Laws.{length-splice}
 use Rattle.rules.specs.Sizes.{imageBytes, blockBytes, blocks, blockStart}
 use Rattle.rules.specs.Create.{isIn}
-use Rattle.cut.specs.Changes.{Change, covers, carryOut}
+use Rattle.cut.specs.Changes.{Logged, covers, carryOut}
 use Rattle.cut.proofs.Facts.{carry-same, carry-inside, carry-outside}
 use Rattle.demands.specs.History.{Sent, those}
 use Rattle.demands.specs.Demand3.{written, sentIn, timesIn, timesSent}
 use Rattle.demands.proofs.Views.{view, view-splice, inside-of}
 
 -- a write is a change of all its block's bytes
-abbrev pub whole : Sent → Change
+abbrev pub whole : Sent → Logged
 whole w = record { number = 0; block = w .block; offset = 0; bytes = w .bytes }
 
 pub record Whole (w : Sent) : Type 0 where

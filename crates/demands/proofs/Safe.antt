@@ -8,9 +8,9 @@ use lib.ListN.{length}
 use Rattle.spans.proofs.Laws.{length-splice}
 use Rattle.rules.specs.Sizes.{imageBytes}
 use Rattle.rules.specs.Create.{changed}
-use Rattle.cut.specs.Changes.{Change, after, only}
+use Rattle.cut.specs.Changes.{Logged, after, only}
 use Rattle.cut.specs.World as world
-use Rattle.cut.specs.World.{State, waiting, inFlight, committed}
+use Rattle.cut.specs.World.{Stage, waiting, inFlight, committed}
 use Rattle.cut.specs.Cut as cutting
 use Rattle.cut.specs.Cut.{afterCut, reached, landed}
 use Rattle.cut.proofs.Facts.{carry-same}
@@ -20,9 +20,9 @@ use Rattle.demands.specs.Demand3.{onStore, storeAfterCut, sentIn, hasLan
 use Rattle.demands.proofs.Log.{plain, newer-in, older-in, earlier-log}
 use Rattle.demands.proofs.Views.{view, view-splice, view-same, Within}
 use Rattle.demands.proofs.Notes.{length-written, some-written, sent-in-both, sent-in-those, mem-left}
-use Rattle.demands.proofs.Words.{wordOf, isDone, isOut}
-use Rattle.demands.proofs.Radio as radio
-use Rattle.demands.proofs.Radio.{Good, sent-to}
+use Rattle.demands.proofs.AtSlot.{wordOf, isDone, isOut}
+use Rattle.demands.proofs.Good as radio
+use Rattle.demands.proofs.Good.{Good, sent-to}
 
 -- the changes that pass a test carried out on an image, seen byte by byte
 pub length-carried : (test : Accepted → Bool) (l : List Accepted) (store : List ℕ) → length (carriedOut test l store) ≡ length store
@@ -34,7 +34,7 @@ length-carried test (a ∷ l) store = go (test a) ∙ length-carried test l stor
     go true = length-splice (carriedOut test l store) _ _
     go false = refl
 
-view-carried : (test : Accepted → Bool) (word : Change → Bool) (store : List ℕ) → length store ≡ imageBytes → (b i : ℕ) (l : List Accepted)
+view-carried : (test : Accepted → Bool) (word : Logged → Bool) (store : List ℕ) → length store ≡ imageBytes → (b i : ℕ) (l : List Accepted)
     → ((a : Accepted) → List·Memᴰ a l → test a ≡ word (plain a)) → ((a : Accepted) → List·Memᴰ a l → Within (plain a))
     → view (carriedOut test l store) b i ≡ after (only word (map plain l)) (view store) b i
 unfolding carriedOut changed after only
@@ -54,7 +54,7 @@ view-carried test word store e b i (a ∷ l) f w =
     go false true q ih = absurd (let z : _≡_ {A = ℕ} 0 1 = cc in omega arith)
 
 -- what is noted, and what the table says of it
-by-state : (new : Bool) (s : State) → ((new && isOut s) || isDone s) ≡ reached new s
+by-state : (new : Bool) (s : Stage) → ((new && isOut s) || isDone s) ≡ reached new s
 unfolding reached
 by-state true waiting = refl
 by-state false waiting = refl
@@ -72,7 +72,7 @@ module _ (h : History) (g : Good h) (new : ℕ → Bool) where
       ∙ ap₂ (λ (x y : Bool). (new (a .change .block) && x) || y) (g .out a m) (g .done a m)
       ∙ by-state (new (a .change .block)) (wordOf (h .table .slots) (a .number))
 
-  safe : cutting.CutSafe (view (h .opening)) (radio.world h) new
+  safe : cutting.SafeAt (view (h .opening)) (radio.world h) new
   safe = cut-safe (g .safe) new
 
   pub cut-seen : (b i : ℕ) → view (storeAfterCut new h) b i ≡ afterCut new (radio.world h) b i
@@ -90,15 +90,15 @@ module _ (h : History) (g : Good h) (new : ℕ → Bool) where
       (length-written (onStore new h) (h .opening) ∙ g .opening-whole) (length-carried (hasLanded new h) (h .accepted) (h .opening) ∙ g .opening-whole)
       (λ b i. cut-seen b i ∙ safe .holds b i ∙ sym (carried b i))
 
-  asked : (y x : Accepted) → AskedFor h y x → world.Asked (radio.world h) (plain y) (plain x)
+  asked : (y x : Accepted) → AskedFor h y x → world.AskedEarlier (radio.world h) (plain y) (plain x)
   asked y x a = record {
     earlier = earlier-log y x (a .earlier);
     asks = record { asker = y; accepted = newer-in (a .earlier); is = refl; named = a .named };
   }
 
-  follows : (y x : Accepted) → Follows h y x → world.Follows (radio.world h) (plain y) (plain x)
-  follows y x (Follows.straight a) = world.Follows.straight (asked y x a)
-  follows y x (Follows.through {z = z} a f) = world.Follows.through (asked y z a) (follows z x f)
+  follows : (y x : Accepted) → Follows h y x → world.AskedThrough (radio.world h) (plain y) (plain x)
+  follows y x (Follows.straight a) = world.AskedThrough.straight (asked y x a)
+  follows y x (Follows.through {z = z} a f) = world.AskedThrough.through (asked y z a) (follows z x f)
 
   ends : (y x : Accepted) → Follows h y x → List·Memᴰ y (h .accepted) × List·Memᴰ x (h .accepted)
   ends y x (Follows.straight a) = (newer-in (a .earlier), older-in (a .earlier))

@@ -14,7 +14,7 @@ use Rattle.ground.proofs.Decided.{clash, and-true, true-and}
 use Rattle.spans.specs.Spans.{splice}
 use Rattle.spans.proofs.Laws.{splice-in, splice-below, splice-above}
 use Rattle.rules.specs.Sizes.{imageBytes, blockBytes, blocks, blockStart}
-use Rattle.cut.specs.Changes.{Store, Change, covers, carryOut}
+use Rattle.cut.specs.Changes.{Store, Logged, covers, carryOut}
 use Rattle.cut.proofs.Facts.{carry-inside, carry-outside}
 
 -- the bytes of an image, by block and place; past its edge nothing is seen
@@ -36,15 +36,15 @@ unfolding view
 view-past l b i h = rw (le-ltb i 256 h, and-false (ltb b 64))
 
 -- a change that lies in a block
-pub record Within (c : Change) : Type 0 where
+pub record Within (c : Logged) : Type 0 where
   pub block : c .block < blocks
   pub ends : c .offset + length (c .bytes) ≤ blockBytes
 
-pub covers-of : (c : Change) (b i : ℕ) → b ≡ c .block → c .offset ≤ i → i < c .offset + length (c .bytes) → covers c b i ≡ true
+pub covers-of : (c : Logged) (b i : ℕ) → b ≡ c .block → c .offset ≤ i → i < c .offset + length (c .bytes) → covers c b i ≡ true
 unfolding covers
 covers-of c b i e h k = true-and (eq-eqb b (c .block) e) (true-and (le-leb (c .offset) i h) (lt-ltb i (c .offset + length (c .bytes)) k))
 
-pub inside-of : (c : Change) (b i : ℕ) → covers c b i ≡ true → (b ≡ c .block) × (c .offset ≤ i) × (i < c .offset + length (c .bytes))
+pub inside-of : (c : Logged) (b i : ℕ) → covers c b i ≡ true → (b ≡ c .block) × (c .offset ≤ i) × (i < c .offset + length (c .bytes))
 unfolding covers
 inside-of c b i h =
     let w = and-true (eqb b (c .block)) _ h in
@@ -52,10 +52,10 @@ inside-of c b i h =
     (eqb-true b (c .block) (w .0), leb-true (c .offset) i (v .0), ltb-true i (c .offset + length (c .bytes)) (v .1))
 
 -- where the change starts in the image
-abbrev start : Change → ℕ
+abbrev start : Logged → ℕ
 start c = blockStart (c .block) + c .offset
 
-outside : (c : Change) (b i : ℕ) → Within c → i < blockBytes → covers c b i ≡ false
+outside : (c : Logged) (b i : ℕ) → Within c → i < blockBytes → covers c b i ≡ false
     → (blockStart b + i < start c) ⊎ (start c + length (c .bytes) ≤ blockStart b + i)
 outside c b i f h n = pick (decLt (blockStart b + i) (start c)) (decLt (blockStart b + i) (start c + length (c .bytes)))
   where
@@ -68,7 +68,7 @@ outside c b i f h n = pick (decLt (blockStart b + i) (start c)) (decLt (blockSta
         let e : b ≡ c .block = omega arith in
         absurd (clash (covers-of c b i e (omega arith) (omega arith)) n)
 
-module _ (c : Change) (l : List ℕ) (f : Within c) (e : length l ≡ imageBytes) (b i : ℕ) where
+module _ (c : Logged) (l : List ℕ) (f : Within c) (e : length l ≡ imageBytes) (b i : ℕ) where
   at-place : (v : Bool) → covers c b i ≡ v → b < blocks → i < blockBytes → view (splice l (start c) (c .bytes)) b i ≡ carryOut c (view l) b i
   at-place true h hb hj =
       let q = inside-of c b i h in

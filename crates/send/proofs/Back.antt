@@ -16,7 +16,7 @@ use Rattle.rules.specs.declared.Slot.{Slot}
 use Rattle.rules.specs.Table.{slotAt}
 use Rattle.rules.specs.Write.{takenBack, backDown}
 use Rattle.rules.proofs.TakenBack.{numbers-nowhere, highest-first}
-use Rattle.slots.specs.Words.{NumbersOf}
+use Rattle.slots.specs.Walks.{NumbersOf}
 use Rattle.send.specs.Back.{Best}
 
 -- ---- a walk that looks for it

@@ -7,7 +7,7 @@ use Rattle.rules.specs.declared.Slot.{Slot}
 use Rattle.rules.specs.Table.{waitsOn, fliesOn}
 use Rattle.rules.specs.Refusals.{Flies, Waits}
 use Rattle.slots.specs.declared.types.Patches.{Patches}
-use Rattle.slots.specs.Words.{PatchesOn}
+use Rattle.slots.specs.Walks.{PatchesOn}
 
 module _ {ss : List Slot} {b : ℕ} {p : Patches} (on : PatchesOn ss b p) where
   pub some-flies : (p .in_flight ≡ 0 → ⊥) → Flies ss b

@@ -12,7 +12,7 @@ use Rattle.rules.specs.declared.Slot.{Slot}
 use Rattle.rules.specs.Table.{Sound, tableOf, used}
 use Rattle.slots.specs.declared.types.Patches.{Patches}
 use Rattle.slots.specs.declared.types.Verdict.{Verdict}
-use Rattle.slots.specs.Words.{Found, NumbersOf, PatchesOn, IsVerdict, takenRooms}
+use Rattle.slots.specs.Walks.{Found, NumbersOf, PatchesOn, IsVerdict, takenRooms}
 
 pub found-one : {ss : List Slot} {n a b : ℕ} → Found ss n a → Found ss n b → a ≡ b
 found-one {ss} {n} {a} {b} p q = by (decLt a b) (decLt b a)

@@ -12,9 +12,9 @@ use Rattle.masks.proofs.Laws.{has-of, within-at, at-within}
 use Rattle.rules.specs.declared.Slot.{Slot}
 use Rattle.rules.specs.Sizes.{slots, rooms}
 use Rattle.rules.specs.Table.{Sound, tableOf, used, slotAt, HasRoom}
-use Rattle.slots.specs.Tests.{HeaderInRange, Alone, unsound}
+use Rattle.slots.specs.SlotSound.{HeaderInRange, Alone, unsound}
 use Rattle.slots.specs.declared.types.Verdict.{Verdict}
-use Rattle.slots.specs.Words.{Carries, IsVerdict}
+use Rattle.slots.specs.Walks.{Carries, IsVerdict}
 use Rattle.rules.proofs.Words.{room-is, room-below, has-room-used}
 use Rattle.slots.proofs.Gathered.{gathered, gathered-all, gathered-only}
 

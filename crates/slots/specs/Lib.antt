@@ -1,3 +1,3 @@
 -- What the walks over the slots give, in the words of `rules`, and what the private tests decide.
-pub mod Words
-pub mod Tests
+pub mod Walks
+pub mod SlotSound

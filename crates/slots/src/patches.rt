@@ -2,7 +2,7 @@
 // sets, so one walk gathers them all, and what a call does not use the compiler leaves out.
 ghost use mathlib.Core.Path.{_≡_};
 ghost use Rattle.rules.specs.Slots.{isWaiting, isInFlight, isHard};
-ghost use Rattle.slots.specs.Words.{PatchesOn};
+ghost use Rattle.slots.specs.Walks.{PatchesOn};
 use crate::types::Patches;
 use rules::Hold;
 use rules::Slot;

@@ -1,5 +1,5 @@
 // Walks over the 64 slots: the slot of a number, and the numbers alone.
-ghost use Rattle.slots.specs.Words.{Found, NumbersOf};
+ghost use Rattle.slots.specs.Walks.{Found, NumbersOf};
 use crate::words::is_used;
 use rules::Slot;
 

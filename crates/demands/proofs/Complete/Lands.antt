@@ -12,17 +12,17 @@ use Rattle.ground.proofs.Decided.{clash, true-and}
 use Rattle.rules.specs.declared.Slot.{Slot}
 use Rattle.rules.specs.Table.{slotAt}
 use Rattle.rules.proofs.After.{befores-at}
-use Rattle.cut.specs.Changes.{Change}
-use Rattle.cut.specs.World.{committed, Lands}
+use Rattle.cut.specs.Changes.{Logged}
+use Rattle.cut.specs.World.{committed, LandStep}
 use Rattle.demands.specs.History.{History}
 use Rattle.demands.specs.Demand3.{written}
 use Rattle.demands.proofs.Log.{plain, on-log}
 use Rattle.demands.proofs.Views.{view}
 use Rattle.demands.proofs.Notes.{AllWhole, some-written, written-alike, mem-left}
 use Rattle.demands.proofs.Lookup.{slotOf, slot-carries}
-use Rattle.demands.proofs.Words.{stateAt, roomedAt, wordOf, roomedOf, Tied, tie-stays}
+use Rattle.demands.proofs.AtSlot.{stateAt, roomedAt, wordOf, roomedOf, Tied, tie-stays}
 use Rattle.demands.proofs.Linked.{room-stays}
-use Rattle.demands.proofs.Radio.{roomByte, oldByte, world, Good}
+use Rattle.demands.proofs.Good.{roomByte, oldByte, world, Good}
 use Rattle.demands.proofs.Complete.Slots.{settledIf, to-it, elsewhere, landed, Fate, fate, stays-at, like-at, state-after}
 
 module _ {h : History} (g : Good h) (b : ℕ) where
@@ -34,7 +34,7 @@ module _ {h : History} (g : Good h) (b : ℕ) where
 
   -- ---- undo data and ties
 
-  old-undo : (x : Change) → roomedOf ss′ (x .number) ≡ true
+  old-undo : (x : Logged) → roomedOf ss′ (x .number) ≡ true
       → (roomedOf ss (x .number) ≡ true) × ((i : ℕ) → oldByte ss′ (h .undo) x i ≡ oldByte ss (h .undo) x i)
   old-undo x s = pick (fate g b (x .number))
     where
@@ -89,10 +89,10 @@ module _ {h : History} (g : Good h) (b : ℕ) where
           written-alike (h .opening) (g .opening-whole) d i (h .inFlight) (to-it g b ++ h .landed) (h .landed) out-whole (store-now d i ∙ rw e)
 
   -- where a change of the log is
-  state-now : (x : Change) → List·Memᴰ x (map plain (h .accepted)) → wordOf ss′ (x .number) ≡ settledIf (eqb (x .block) b) (wordOf ss (x .number))
+  state-now : (x : Logged) → List·Memᴰ x (map plain (h .accepted)) → wordOf ss′ (x .number) ≡ settledIf (eqb (x .block) b) (wordOf ss (x .number))
   state-now = on-log (h .accepted) (λ x. wordOf ss′ (x .number) ≡ settledIf (eqb (x .block) b) (wordOf ss (x .number))) (state-after g b)
 
-  pub lands : Lands b (world h) (world (landed g b))
+  pub lands : LandStep b (world h) (world (landed g b))
   lands = record {
     bytes = λ i. store-now b i ∙ rw (eq-eqb b b refl);
     others = λ d i n. store-now d i ∙ rw (ne-eqb d b n);

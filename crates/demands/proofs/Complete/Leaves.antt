@@ -7,26 +7,26 @@ use mathlib.Core.List.{List, _++_, List·Memᴰ}
 use mathlib.Core.Logic.{⊎-elim}
 use lib.Dec.{eqb}
 use Rattle.rules.specs.declared.Slot.{Slot}
-use Rattle.cut.specs.World.{State, waiting, inFlight, committed, settled, Step}
+use Rattle.cut.specs.World.{Stage, waiting, inFlight, committed, settled, Step}
 use Rattle.cut.proofs.Core.{step-keeps}
 use Rattle.demands.specs.History.{History, Accepted, Sent}
 use Rattle.demands.specs.Demand3.{sentIn}
 use Rattle.demands.proofs.Notes.{sent-in-both, sent-in-those, of-those, mem-left, mem-right, mem-either, times-both, times-parted}
-use Rattle.demands.proofs.Words.{wordOf, isDone, isOut}
+use Rattle.demands.proofs.AtSlot.{wordOf, isDone, isOut}
 use Rattle.demands.proofs.Linked.{linked-kept}
-use Rattle.demands.proofs.Radio.{Good, sent-to}
+use Rattle.demands.proofs.Good.{Good, sent-to}
 use Rattle.demands.proofs.Complete.Slots.{settledIf, to-it, elsewhere, landed, sound′, like, state-after}
 use Rattle.demands.proofs.Complete.Lands.{lands}
 
 -- after the landing, by block and state
-done-after : (its : Bool) (s : State) → ((its && isOut s) || isDone s) ≡ isDone (settledIf its s)
+done-after : (its : Bool) (s : Stage) → ((its && isOut s) || isDone s) ≡ isDone (settledIf its s)
 unfolding settled
 done-after true waiting = refl
 done-after true inFlight = refl
 done-after true committed = refl
 done-after false s = refl
 
-out-after : (its : Bool) (s : State) → (not its && isOut s) ≡ isOut (settledIf its s)
+out-after : (its : Bool) (s : Stage) → (not its && isOut s) ≡ isOut (settledIf its s)
 unfolding settled
 out-after true waiting = refl
 out-after true inFlight = refl

@@ -14,15 +14,15 @@ use Rattle.rules.specs.Slots.{isUsed, isInFlight}
 use Rattle.rules.specs.Table.{slotAt, used, fliesOn, Sound}
 use Rattle.rules.specs.Complete.{withoutBefores, landing, completedSlots, completed}
 use Rattle.rules.proofs.StaysSound.{Like, Finished, finished, remaining-like, completed-sound}
-use Rattle.cut.specs.World.{State, committed, settled}
+use Rattle.cut.specs.World.{Stage, committed, settled}
 use Rattle.demands.specs.History.{History, Accepted, Sent, those}
 use Rattle.demands.proofs.Lookup.{carries, slotOf, carries-used, carries-number, at-slot, slot-carries, no-slot, nowhere}
-use Rattle.demands.proofs.Words.{stateWord, stateAt, wordOf}
+use Rattle.demands.proofs.AtSlot.{stateWord, stateAt, wordOf}
 use Rattle.demands.proofs.Linked.{carries-was, carries-still}
-use Rattle.demands.proofs.Radio.{Good}
+use Rattle.demands.proofs.Good.{Good}
 
 -- the state of a change once a block has landed, whose own block it may be
-abbrev pub settledIf : Bool → State → State
+abbrev pub settledIf : Bool → Stage → Stage
 settledIf its s = cond its (settled s) s
 
 -- a patch that has no slot, one that commits, and one that stays

@@ -19,7 +19,7 @@ use Rattle.rules.specs.Create.{overlaps, patch, changed}
 use Rattle.rules.proofs.StaysSound.{Like}
 use Rattle.rules.proofs.Pins.{byte-shared}
 use Rattle.cut.specs.Changes.{Share}
-use Rattle.cut.specs.World.{State, waiting, Step}
+use Rattle.cut.specs.World.{Stage, waiting, Step}
 use Rattle.cut.proofs.Core.{step-keeps}
 use Rattle.demands.specs.History.{History, Accepted, Sent}
 use Rattle.demands.specs.Demand3.{Earlier, sentIn}
@@ -27,9 +27,9 @@ use Rattle.demands.proofs.Log.{plain, Numbered, number-taken, Oldest, O
 use Rattle.demands.proofs.Views.{Within, inside-of}
 use Rattle.demands.proofs.Notes.{sender, mem-left, mem-right}
 use Rattle.demands.proofs.Lookup.{carries, carries-used}
-use Rattle.demands.proofs.Words.{roomed, wordOf, isDone, isOut}
+use Rattle.demands.proofs.AtSlot.{roomed, wordOf, isDone, isOut}
 use Rattle.demands.proofs.Linked.{Range, Has, like-room, range-still, overlaps-still}
-use Rattle.demands.proofs.Radio.{Good}
+use Rattle.demands.proofs.Good.{Good}
 use Rattle.demands.proofs.Create.Slots.{Making, new, made, At, at, sound′, carries-old, new-slot, below, old-state, new-state, like}
 use Rattle.demands.proofs.Create.Ties.{created}
 
@@ -112,7 +112,7 @@ module _ {h : History} {c : create.Change} {j : ℕ} {k : Hold} (d : Making h c 
           absurd (omega (arith, below d (a .0) (a .1), a .2))
 
   -- a note that agreed agrees still, and the new change is in none
-  noted : (word : State → Bool) → word waiting ≡ false → (ws : List Sent) → ((w : Sent) → List·Memᴰ w ws → List·Memᴰ w (h .inFlight ++ h .landed))
+  noted : (word : Stage → Bool) → word waiting ≡ false → (ws : List Sent) → ((w : Sent) → List·Memᴰ w ws → List·Memᴰ w (h .inFlight ++ h .landed))
       → ((x : Accepted) → List·Memᴰ x (h .accepted) → sentIn (x .number) ws ≡ word (wordOf ss (x .number)))
       → (x : Accepted) → List·Memᴰ x (new d ∷ h .accepted) → sentIn (x .number) ws ≡ word (wordOf ss′ (x .number))
   noted word e ws among f x (List·Memᴰ·head q) =

@@ -23,15 +23,15 @@ use Rattle.rules.specs.Create.{FreeSlot, HoldOf, patch, turned, turnedState, ac
 use Rattle.rules.proofs.After.{accepted-at}
 use Rattle.rules.proofs.Granted.{CreatePassed}
 use Rattle.rules.proofs.StaysSound.{Like, like-self, turned-like, accepted-sound}
-use Rattle.cut.specs.Changes.{Change}
+use Rattle.cut.specs.Changes.{Logged}
 use Rattle.cut.specs.World.{waiting}
 use Rattle.cut.proofs.Facts.{same-or-other}
 use Rattle.demands.specs.History.{History, Accepted}
 use Rattle.demands.proofs.Log.{plain, number-below, of-log}
 use Rattle.demands.proofs.Lookup.{carries, slotOf, carries-used, carries-number, carries-of, at-slot, slot-carries, slot-same}
-use Rattle.demands.proofs.Words.{stateWord, stateAt, wordOf}
+use Rattle.demands.proofs.AtSlot.{stateWord, stateAt, wordOf}
 use Rattle.demands.proofs.Linked.{carries-was, carries-still}
-use Rattle.demands.proofs.Radio.{Good}
+use Rattle.demands.proofs.Good.{Good}
 
 -- a slot that a create finds in use: it may turn hard, and else stays
 pub record Stays (n s : Slot) : Type 0 where
@@ -162,8 +162,8 @@ module _ {h : History} {c : create.Change} {j : ℕ} {k : Hold} (d : Making h c 
   pub below : (x : Accepted) → List·Memᴰ x (h .accepted) → x .number < h .table .next
   below x m = number-below x (d .good .numbers) m
 
-  pub below-log : (x : Change) → List·Memᴰ x (map plain (h .accepted)) → x .number < h .table .next
-  below-log x m = let r = of-log (h .accepted) x m in subst (λ (y : Change). y .number < h .table .next) (r .2) (below (r .0) (r .1))
+  pub below-log : (x : Logged) → List·Memᴰ x (map plain (h .accepted)) → x .number < h .table .next
+  below-log x m = let r = of-log (h .accepted) x m in subst (λ (y : Logged). y .number < h .table .next) (r .2) (below (r .0) (r .1))
 
   -- where a change is does not move, and the new one waits
   pub old-state : (n : ℕ) → n < h .table .next → wordOf ss′ n ≡ wordOf ss n

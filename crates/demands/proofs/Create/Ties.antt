@@ -13,16 +13,16 @@ use Rattle.rules.specs.declared.Hold.{Hold}
 use Rattle.rules.specs.declared.Slot.{Slot}
 use Rattle.rules.specs.Create as create
 use Rattle.rules.specs.Create.{isIn, isNamed, overlaps, befores, patch, changed}
-use Rattle.cut.specs.Changes.{Change}
-use Rattle.cut.specs.World.{committed, Must, Accepts}
+use Rattle.cut.specs.Changes.{Logged}
+use Rattle.cut.specs.World.{committed, Must, AcceptStep}
 use Rattle.cut.proofs.Facts.{newer-in, older-in}
 use Rattle.demands.specs.History.{History, Accepted}
 use Rattle.demands.proofs.Log.{plain, of-log}
 use Rattle.demands.proofs.Views.{view-splice}
 use Rattle.demands.proofs.Lookup.{slotOf, carries-used, carries-number, slot-carries}
-use Rattle.demands.proofs.Words.{stateAt, wordOf, Tied, tie-stays}
+use Rattle.demands.proofs.AtSlot.{stateAt, wordOf, Tied, tie-stays}
 use Rattle.demands.proofs.Linked.{Has}
-use Rattle.demands.proofs.Radio.{Names, world}
+use Rattle.demands.proofs.Good.{Names, world}
 use Rattle.demands.proofs.Create.Slots.{Making, new, made, new-at, befores-stay, slot-old, slot-new, below, below-log, old-state, new-state}
 use Rattle.demands.proofs.Create.Undo.{new-undo, old-undo}
 
@@ -34,13 +34,13 @@ module _ {h : History} {c : create.Change} {j : ℕ} {k : Hold} (d : Making h c 
   ss′ = made d .table .slots
 
   -- who asks in the new list, and is the new change, asks by the new change's names
-  asker-new : (x : Change) → Names (new d ∷ h .accepted) (plain (new d)) x → isIn (x .number) (c .named) ≡ true
+  asker-new : (x : Logged) → Names (new d ∷ h .accepted) (plain (new d)) x → isIn (x .number) (c .named) ≡ true
   asker-new x n = go (n .accepted)
     where
       go : List·Memᴰ (n .asker) (new d ∷ h .accepted) → isIn (x .number) (c .named) ≡ true
       go (List·Memᴰ·head e) = subst (λ (z : Accepted). isIn (x .number) (z .change .named) ≡ true) e (n .named)
       go (List·Memᴰ·tail m) =
-          let z : n .asker .number ≡ h .table .next = ap (λ (y : Change). y .number) (n .is) in absurd (omega (arith, below d (n .asker) m))
+          let z : n .asker .number ≡ h .table .next = ap (λ (y : Logged). y .number) (n .is) in absurd (omega (arith, below d (n .asker) m))
 
   -- the slot of a change that the new one must follow is among its befores
   listed : (a : Accepted) → List·Memᴰ a (h .accepted) → (i : ℕ) → Has ss a i → Must (world (made d)) (plain (new d)) (plain a)
@@ -67,11 +67,11 @@ module _ {h : History} {c : create.Change} {j : ℕ} {k : Hold} (d : Making h c 
             before = ap (λ (y : Slot). has (y .befores) i) (new-at d) ∙ has-set (λ i. isNamed ss c i || overlaps ss c i) i (f .0) ∙ listed a m i f must;
           })
 
-  new-ties : (x : Change) → List·Memᴰ x (map plain (h .accepted)) → Must (world (made d)) (plain (new d)) x
+  new-ties : (x : Logged) → List·Memᴰ x (map plain (h .accepted)) → Must (world (made d)) (plain (new d)) x
       → (wordOf ss (x .number) ≡ committed) ⊎ Tied ss′ (h .table .next) (x .number)
   new-ties x m =
       let r = of-log (h .accepted) x m in
-      subst (λ (y : Change). Must (world (made d)) (plain (new d)) y → (wordOf ss (y .number) ≡ committed) ⊎ Tied ss′ (h .table .next) (y .number)) (r .2)
+      subst (λ (y : Logged). Must (world (made d)) (plain (new d)) y → (wordOf ss (y .number) ≡ committed) ⊎ Tied ss′ (h .table .next) (y .number)) (r .2)
       (tie-new (r .0) (r .1))
 
   old-ties : (m n : ℕ) → m < h .table .next → n < h .table .next → Tied ss m n → Tied ss′ m n
@@ -79,11 +79,11 @@ module _ {h : History} {c : create.Change} {j : ℕ} {k : Hold} (d : Making h c 
       tie-stays ss ss′ m n (slot-old d m l) (slot-old d n q) (λ i k e f before.
       let c = slot-carries ss m i e in ap (λ (x : ℕ). has x k) (befores-stay d i (c .0) (carries-used ss m i (c .1))) ∙ before)
 
-  asks : (y x : Change) (n : Names (new d ∷ h .accepted) y x) → List·Memᴰ (n .asker) (new d ∷ h .accepted) → Names (h .accepted) y x ⊎ (y ≡ plain (new d))
+  asks : (y x : Logged) (n : Names (new d ∷ h .accepted) y x) → List·Memᴰ (n .asker) (new d ∷ h .accepted) → Names (h .accepted) y x ⊎ (y ≡ plain (new d))
   asks y x n (List·Memᴰ·head e) = inr (sym (n .is) ∙ ap plain e)
   asks y x n (List·Memᴰ·tail m) = inl (record { asker = n .asker; accepted = m; is = n .is; named = n .named })
 
-  pub created : Accepts (plain (new d)) (world h) (world (made d))
+  pub created : AcceptStep (plain (new d)) (world h) (world (made d))
   unfolding changed
   created = record {
     store = λ b i. refl;

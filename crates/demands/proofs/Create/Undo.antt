@@ -20,14 +20,14 @@ use Rattle.rules.specs.Slots.{roomOf}
 use Rattle.rules.specs.Table.{slotAt, HasRoom}
 use Rattle.rules.specs.Create as create
 use Rattle.rules.specs.Create.{FreeRoom, HoldOf, patch, place, oldBytes, kept}
-use Rattle.cut.specs.Changes.{Change, covers}
+use Rattle.cut.specs.Changes.{Logged, covers}
 use Rattle.demands.specs.History.{History}
 use Rattle.demands.proofs.Log.{plain}
 use Rattle.demands.proofs.Views.{view, view-in, inside-of}
 use Rattle.demands.proofs.Lookup.{slotOf, carries-used, slot-carries}
-use Rattle.demands.proofs.Words.{roomed, roomedAt, roomAt, roomedOf, roomFor}
+use Rattle.demands.proofs.AtSlot.{roomed, roomedAt, roomAt, roomedOf, roomFor}
 use Rattle.demands.proofs.Linked.{room-stays}
-use Rattle.demands.proofs.Radio.{roomByte, room-byte, rooms-alike, oldByte}
+use Rattle.demands.proofs.Good.{roomByte, room-byte, rooms-alike, oldByte}
 use Rattle.demands.proofs.Create.Slots.{Making, new, made, new-at, like, slot-old, slot-new, below-log}
 
 -- the room taken was free
@@ -112,7 +112,7 @@ module _ {h : History} {c : create.Change} {j : ℕ} {k : Hold} (d : Making h c 
       let not-taken : k ≡ hold.Soft room → ⊥ = λ z. room-taken ss (c .block) k (d .held) room z .1 i l has-room in
       rooms-alike (made d .undo) (h .undo) room (λ n o. other-room room n low o not-taken)
 
-  pub old-undo : (x : Change) → List·Memᴰ x (map plain (h .accepted)) → roomedOf ss′ (x .number) ≡ true
+  pub old-undo : (x : Logged) → List·Memᴰ x (map plain (h .accepted)) → roomedOf ss′ (x .number) ≡ true
       → (roomedOf ss (x .number) ≡ true) × ((i : ℕ) → oldByte ss′ (made d .undo) x i ≡ oldByte ss (h .undo) x i)
   old-undo x m s =
       (room .0, λ n. ap (λ (q : ℕ). roomByte (made d .undo) q (n - x .offset)) (room .1) ∙ bytes (slotOf ss (x .number)) refl (room .0) (n - x .offset))

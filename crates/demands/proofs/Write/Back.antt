@@ -20,7 +20,7 @@ use Rattle.rules.specs.Table.{slotAt}
 use Rattle.rules.specs.Write.{leftBehind, takenBack, backNumber, backDown, handedOut}
 use Rattle.rules.proofs.TakenBack.{number-nowhere, number-there}
 use Rattle.rules.proofs.Pins.{length-back-number, length-handed-out}
-use Rattle.cut.specs.Changes.{Store, Change, covers}
+use Rattle.cut.specs.Changes.{Store, Logged, covers}
 use Rattle.cut.specs.World.{left, putBack, takeBack}
 use Rattle.cut.proofs.Facts.{carry-inside}
 use Rattle.demands.specs.History.{History, Accepted}
@@ -30,9 +30,9 @@ use Rattle.demands.proofs.Log.{plain, Numbered, first-least, once-oldes
 use Rattle.demands.proofs.Views.{view, view-in, view-past, covers-of, inside-of}
 use Rattle.demands.proofs.Notes.{Whole, whole, view-written}
 use Rattle.demands.proofs.Lookup.{slotOf, carries-used, carries-number, carries-of, slot-carries, nowhere}
-use Rattle.demands.proofs.Words.{roomAt}
+use Rattle.demands.proofs.AtSlot.{roomAt}
 use Rattle.demands.proofs.Linked.{Range, Has}
-use Rattle.demands.proofs.Radio.{roomByte, room-byte, oldByte, world}
+use Rattle.demands.proofs.Good.{roomByte, room-byte, oldByte, world}
 use Rattle.demands.proofs.Write.Slots.{Sending, writ, goes}
 use Rattle.demands.proofs.Write.Left.{behind, isLeft, behind-waits, behind-roomed, left-slot, left-nowhere, left-one, joined-not-left}
 
@@ -187,7 +187,7 @@ module _ {h : History} {b s : ℕ} (d : Sending h b s) where
       (ap (λ (v : Bool). takeBack (isLeft d) (oldByte ss (h .undo)) (map plain l) (cond v (putBack (oldByte ss (h .undo)) (plain a) st) st) b i) stays)
 
   -- past a block's edge nothing is taken back
-  past-back : (l : List Accepted) → ((x : Accepted) → List·Memᴰ x l → List·Memᴰ x (h .accepted)) → (out : Change → Bool) (undo : Change → ℕ → ℕ)
+  past-back : (l : List Accepted) → ((x : Accepted) → List·Memᴰ x l → List·Memᴰ x (h .accepted)) → (out : Logged → Bool) (undo : Logged → ℕ → ℕ)
       (st : Store) (i : ℕ) → blockBytes ≤ i → takeBack out undo (map plain l) st b i ≡ st b i
   unfolding takeBack putBack
   past-back [] f out undo st i k = refl

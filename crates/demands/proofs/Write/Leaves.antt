@@ -21,9 +21,9 @@ use Rattle.rules.proofs.Words.{waiting-used}
 use Rattle.demands.proofs.Log.{plain, number-taken}
 use Rattle.demands.proofs.Notes.{Whole, not-in-none, not-sent-none, times-both}
 use Rattle.demands.proofs.Lookup.{slotOf, carries-number, carries-of, at-slot, slot-carries}
-use Rattle.demands.proofs.Words.{wordOf, isDone, isOut}
+use Rattle.demands.proofs.AtSlot.{wordOf, isDone, isOut}
 use Rattle.demands.proofs.Linked.{linked-kept}
-use Rattle.demands.proofs.Radio.{Good}
+use Rattle.demands.proofs.Good.{Good}
 use Rattle.demands.proofs.Write.Slots.{Sending, writ, gone, may, some-goes, waits, sound′, like, goAt, goes, go-state, stay-state, members}
 use Rattle.demands.proofs.Write.Back.{whole-writ}
 use Rattle.demands.proofs.Write.Sends.{sends}

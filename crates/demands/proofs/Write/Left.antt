@@ -14,15 +14,15 @@ use Rattle.rules.specs.Sizes.{slots}
 use Rattle.rules.specs.Slots.{isWaiting, isHard}
 use Rattle.rules.specs.Table.{slotAt, waitsOn}
 use Rattle.rules.specs.Write.{leftBehind}
-use Rattle.cut.specs.Changes.{Change}
+use Rattle.cut.specs.Changes.{Logged}
 use Rattle.cut.specs.World as cut
 use Rattle.cut.specs.World.{left}
 use Rattle.demands.specs.History.{History, Accepted}
 use Rattle.demands.specs.Demand3.{Earlier}
 use Rattle.demands.proofs.Log.{plain, Once}
 use Rattle.demands.proofs.Lookup.{slotOf, carries-number, slot-carries}
-use Rattle.demands.proofs.Words.{roomed, stateAt, roomedOf, roomedAt, same-word, not-hard}
-use Rattle.demands.proofs.Radio.{world}
+use Rattle.demands.proofs.AtSlot.{roomed, stateAt, roomedOf, roomedAt, same-word, not-hard}
+use Rattle.demands.proofs.Good.{world}
 use Rattle.demands.proofs.Write.Slots.{Sending, may, some-goes, goAt, goes}
 
 module _ {h : History} {b s : ℕ} (d : Sending h b s) where
@@ -34,7 +34,7 @@ module _ {h : History} {b s : ℕ} (d : Sending h b s) where
   behind = leftBehind (h .table .slots) b s
 
   -- does the change?
-  abbrev pub isLeft : Change → Bool
+  abbrev pub isLeft : Logged → Bool
   isLeft = left b (goes d) (world h)
 
   pub behind-waits : (j : ℕ) → behind j ≡ true → (isWaiting (slotAt ss j .state) ≡ true) × (slotAt ss j .block ≡ b) × (has s j ≡ false)

@@ -7,8 +7,8 @@ use mathlib.Core.Logic.{_≢_, inr, ⊎-elim}
 use Rattle.masks.specs.Sets.{has}
 use Rattle.ground.proofs.Decided.{true-or-false}
 use Rattle.rules.specs.declared.Slot.{Slot}
-use Rattle.cut.specs.Changes.{Change, covers}
-use Rattle.cut.specs.World.{waiting, inFlight, left, Sends}
+use Rattle.cut.specs.Changes.{Logged, covers}
+use Rattle.cut.specs.World.{waiting, inFlight, left, SendStep}
 use Rattle.cut.proofs.Facts.{carry-outside}
 use Rattle.demands.specs.History.{History}
 use Rattle.demands.specs.Demand3.{written}
@@ -16,9 +16,9 @@ use Rattle.demands.proofs.Log.{on-log}
 use Rattle.demands.proofs.Views.{view, inside-of}
 use Rattle.demands.proofs.Notes.{whole, view-written}
 use Rattle.demands.proofs.Lookup.{slotOf, slot-carries}
-use Rattle.demands.proofs.Words.{wordOf, roomedOf, Tied, tie-stays}
+use Rattle.demands.proofs.AtSlot.{wordOf, roomedOf, Tied, tie-stays}
 use Rattle.demands.proofs.Linked.{room-stays}
-use Rattle.demands.proofs.Radio.{roomByte, oldByte, world, none-out}
+use Rattle.demands.proofs.Good.{roomByte, oldByte, world, none-out}
 use Rattle.demands.proofs.Write.Slots.{Sending, writ, gone, may, goAt, goes, like, befores-stay, slot-here, go-state, stay-state, members}
 use Rattle.demands.proofs.Write.Left.{left-roomed}
 use Rattle.demands.proofs.Write.Back.{whole-writ, bytes}
@@ -35,7 +35,7 @@ module _ {h : History} {b s : ℕ} (d : Sending h b s) where
       let goes = sym (ap (goAt s) (t .mineIs)) ∙ e in
       ap (goAt s) (t .itsIs) ∙ may d .closed (t .mine) (t .its) goes (slot-carries ss n (t .its) (t .itsIs) .0) (t .before)
 
-  old-undo : (x : Change) → roomedOf ss′ (x .number) ≡ true
+  old-undo : (x : Logged) → roomedOf ss′ (x .number) ≡ true
       → (roomedOf ss (x .number) ≡ true) × ((i : ℕ) → oldByte ss′ (h .undo) x i ≡ oldByte ss (h .undo) x i)
   old-undo x e =
       let n = x .number in
@@ -54,7 +54,7 @@ module _ {h : History} {b s : ℕ} (d : Sending h b s) where
       ∙ carry-outside e i (whole (writ d)) (view (written (h .inFlight ++ h .landed) (h .opening)))
       (⊎-elim (λ f. absurd (n (inside-of (whole (writ d)) e i f .0))) (λ f. f) (true-or-false (covers (whole (writ d)) e i)))
 
-  pub sends : Sends b (goes d) (world h) (world (gone d))
+  pub sends : SendStep b (goes d) (world h) (world (gone d))
   sends = record {
     store = λ e i. refl;
     working = λ e i. refl;

@@ -17,14 +17,14 @@ use Rattle.rules.specs.Write.{MayGo, Largest, handedOut, sentState, sentSlot, s
 use Rattle.rules.proofs.After.{sent-at}
 use Rattle.rules.proofs.Granted.{WritePassed}
 use Rattle.rules.proofs.StaysSound.{Like, sent-like, sent-sound}
-use Rattle.cut.specs.Changes.{Change}
+use Rattle.cut.specs.Changes.{Logged}
 use Rattle.cut.specs.World.{waiting, inFlight}
 use Rattle.demands.specs.History.{History, Accepted, Sent, numbersBelow}
 use Rattle.demands.proofs.Log.{plain}
 use Rattle.demands.proofs.Lookup.{carries, slotOf, slot-carries, slot-same}
-use Rattle.demands.proofs.Words.{stateWord, stateAt, wordOf, waiting-word}
+use Rattle.demands.proofs.AtSlot.{stateWord, stateAt, wordOf, waiting-word}
 use Rattle.demands.proofs.Linked.{carries-was, carries-still}
-use Rattle.demands.proofs.Radio.{Good}
+use Rattle.demands.proofs.Good.{Good}
 
 sent-word : (u : rules.State) → isWaiting u ≡ true → stateWord (sentState u) ≡ inFlight
 sent-word state.Free e = absurd (clash e refl)
@@ -106,7 +106,7 @@ module _ {h : History} {b s : ℕ} (d : Sending h b s) where
       slot-same ss′ ss n (λ i l. same-bool (carries ss′ n i) (carries ss n i) (carries-was ss ss′ i (like i l) n) (carries-still ss ss′ i (like i l) n))
 
   -- does the change go?
-  abbrev pub goes : Change → Bool
+  abbrev pub goes : Logged → Bool
   goes x = goAt s (slotOf ss (x .number))
 
   pub go-state : (n : ℕ) → goAt s (slotOf ss n) ≡ true → wordOf ss′ n ≡ inFlight

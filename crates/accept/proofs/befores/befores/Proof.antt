@@ -11,7 +11,7 @@ use Rattle.masks.proofs.Laws.{below-none, with-if-below}
 use Rattle.rules.specs.declared.Slot.{Slot}
 use Rattle.rules.specs.Table.{slotAt}
 use Rattle.rules.specs.Create.{Change, befores}
-use Rattle.accept.specs.Tests.{follows}
+use Rattle.accept.specs.OneSlot.{follows}
 use borrow.Author.Needs.{needs}
 use Rattle.accept.proofs.befores.befores.Statement.{statement}
 use Rattle.accept.proofs.befores.befores.Tie as tie

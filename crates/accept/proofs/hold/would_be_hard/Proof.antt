@@ -5,7 +5,7 @@ use native.Mathlib.Omega.{arith}
 use borrow.Author.Count.{below-none, below-more}
 use Rattle.ground.proofs.Decided.{yes-of, no-of}
 use Rattle.rules.specs.Table.{slotAt}
-use Rattle.accept.specs.Tests.{HoldsBack}
+use Rattle.accept.specs.OneSlot.{HoldsBack}
 use Rattle.accept.proofs.HeldBack.{hard-holds-none, none-holds-hard}
 use borrow.Author.Needs.{needs}
 use Rattle.accept.proofs.hold.would_be_hard.Statement.{statement}

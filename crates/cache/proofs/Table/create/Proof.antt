@@ -14,7 +14,7 @@ use Rattle.rules.specs.Table.{used}
 use Rattle.rules.proofs.Granted.{CreatePassed}
 use Rattle.masks.specs.Lowest.{Lowest}
 use Rattle.rules.specs.Create.{Change, FreeSlot, HoldOf, accepted}
-use Rattle.slots.specs.Words.{takenRooms}
+use Rattle.slots.specs.Walks.{takenRooms}
 use Rattle.masks.specs.Lowest.{LowestOr, Outside}
 use Rattle.accept.proofs.FreeRooms.{Means, held-means}
 use Rattle.masks.proofs.Lowest.{lowest-same}

@@ -8,7 +8,7 @@ use Rattle.rules.specs.Table.{withSlots}
 use Rattle.rules.specs.Write.{Largest, sent}
 use Rattle.rules.specs.Rounds.{searched}
 use Rattle.rules.proofs.Rounds.{searched-largest}
-use Rattle.slots.specs.Words.{PatchesOn}
+use Rattle.slots.specs.Walks.{PatchesOn}
 use Rattle.send.proofs.Handed.{handed-out}
 use Rattle.cache.specs.Seen.{seen}
 use Rattle.cache.specs.Judged.{WriteReady}

@@ -5,7 +5,7 @@ use native.Mathlib.Omega.{arith}
 use borrow.Author.Needs.{needs}
 use Rattle.ground.proofs.Decided.{yes-not, no-not}
 use Rattle.rules.specs.Table.{Sound}
-use Rattle.slots.specs.Words.{PatchesOn}
+use Rattle.slots.specs.Walks.{PatchesOn}
 use Rattle.slots.proofs.OnBlock.{some-flies, none-flies, some-waits, none-waits}
 use Rattle.cache.specs.Seen.{seen}
 use Rattle.cache.proofs.Sent.{write-wrong-size, write-unsound, write-no-block, write-flies, write-none-waits}

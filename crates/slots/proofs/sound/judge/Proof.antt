@@ -15,7 +15,7 @@ use Rattle.ground.proofs.Decided.{clash, yes-of, no-of, yes-not, no-not}
 use Rattle.masks.proofs.Laws as sets
 use Rattle.rules.specs.declared.Slot.{Slot}
 use Rattle.rules.specs.Table.{Sound, tableOf, used, slotAt}
-use Rattle.slots.specs.Tests.{HeaderInRange, Alone, marked}
+use Rattle.slots.specs.SlotSound.{HeaderInRange, Alone, marked}
 use Rattle.rules.proofs.Words.{room-is, has-room-used}
 use Rattle.slots.proofs.Gathered.{gathered, gathered-none, gathered-pass, gathered-more}
 use Rattle.slots.proofs.Rooms.{roomed, free-roomless, rooms-more, meets-shares, shares-meets}

@@ -13,7 +13,7 @@ use lib.Seq.{getD-set-same, getD-set-other}
 use Rattle.masks.specs.Sets.{has, setOf}
 use Rattle.ground.proofs.Decided.{true-or-l, true-or-r}
 use Rattle.masks.proofs.Laws.{has-set}
-use Rattle.slots.specs.Tests.{marked, Marking}
+use Rattle.slots.specs.SlotSound.{marked, Marking}
 use Rattle.slots.proofs.sound.mark.Statement.{statement}
 use Rattle.slots.proofs.sound.mark.Tie as tie
 

@@ -6,7 +6,7 @@ use native.Mathlib.Omega.{arith}
 use borrow.Author.Count.{below-none, below-more}
 use borrow.Author.Needs.{needs}
 use Rattle.ground.proofs.Decided.{clash}
-use Rattle.slots.specs.Words.{Carries}
+use Rattle.slots.specs.Walks.{Carries}
 use Rattle.slots.proofs.walks.find.Statement.{statement}
 use Rattle.slots.proofs.walks.find.Tie as tie
 

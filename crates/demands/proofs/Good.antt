@@ -15,7 +15,7 @@ use Rattle.rules.specs.Table.{slotAt, Sound}
 use Rattle.rules.specs.Create.{isIn}
 use Rattle.rules.specs.Refusals.{Flies}
 use Rattle.ground.proofs.Decided.{true-and}
-use Rattle.cut.specs.Changes.{Change}
+use Rattle.cut.specs.Changes.{Logged}
 use Rattle.cut.specs.World.{World, inFlight, committed}
 use Rattle.cut.proofs.Invariant.{Invariant}
 use Rattle.demands.specs.History.{History, Accepted, Sent}
@@ -24,11 +24,11 @@ use Rattle.demands.proofs.Log.{plain, Numbered, NamesOlder, block-one}
 use Rattle.demands.proofs.Views.{view, Within}
 use Rattle.demands.proofs.Notes.{AllWhole, mem-left}
 use Rattle.demands.proofs.Lookup.{slotOf, slot-carries}
-use Rattle.demands.proofs.Words.{stateAt, wordOf, roomedOf, roomFor, Tied, isDone, isOut, word-flying}
+use Rattle.demands.proofs.AtSlot.{stateAt, wordOf, roomedOf, roomFor, Tied, isDone, isOut, word-flying}
 use Rattle.demands.proofs.Linked.{Linked}
 
 -- y's caller named x's number
-pub record Names (l : List Accepted) (y x : Change) : Type 0 where
+pub record Names (l : List Accepted) (y x : Logged) : Type 0 where
   pub asker : Accepted
   pub accepted : List·Memᴰ asker l
   pub is : plain asker ≡ y
@@ -53,7 +53,7 @@ rooms-alike u w r f n = go (ltb n roomBytes) refl
     go false e = refl
 
 -- the old bytes of a change, in the room of its slot
-abbrev pub oldByte : List Slot → List ℕ → Change → ℕ → ℕ
+abbrev pub oldByte : List Slot → List ℕ → Logged → ℕ → ℕ
 oldByte ss undo c i = roomByte undo (roomFor ss (c .number)) (i - c .offset)
 
 abbrev pub world : History → World

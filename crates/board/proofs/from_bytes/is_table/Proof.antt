@@ -4,8 +4,8 @@ use native.Mathlib.Omega.{arith}
 use borrow.Author.Count.{below-more}
 use Rattle.board.specs.Layout.{numberAt, slotStart}
 use borrow.Author.Needs.{needs}
-use Rattle.board.proofs.read.is_table.Statement.{statement}
-use Rattle.board.proofs.read.is_table.Tie as tie
+use Rattle.board.proofs.from_bytes.is_table.Statement.{statement}
+use Rattle.board.proofs.from_bytes.is_table.Tie as tie
 
 abbrev Inv-loop : tie.InvT-loop
 Inv-loop bytes i₀ i = (i ≤ 64) × ((k : ℕ) → k < i → numberAt bytes (slotStart k) 4 ≤ 4)

@@ -15,11 +15,11 @@ use Rattle.rules.specs.declared.Slot.{Slot}
 use Rattle.rules.specs.Slots.{isWaiting, isInFlight, isHard, hasRoom, roomOf}
 use Rattle.rules.specs.Table.{slotAt}
 use Rattle.cut.specs.World as cut
-use Rattle.cut.specs.World.{State, waiting, inFlight, committed}
+use Rattle.cut.specs.World.{Stage, waiting, inFlight, committed}
 use Rattle.demands.proofs.Lookup.{slotOf}
 
 -- where a patch is, by its slot's state; a free slot's patch has committed
-abbrev pub stateWord : rules.State → State
+abbrev pub stateWord : rules.State → Stage
 stateWord state.Free = committed
 stateWord (state.Waiting h) = waiting
 stateWord (state.InFlight k) = inFlight
@@ -28,7 +28,7 @@ stateWord (state.InFlight k) = inFlight
 abbrev pub roomed : rules.State → Bool
 roomed u = hasRoom u (roomOf u)
 
-abbrev pub stateAt : List Slot → Option ℕ → State
+abbrev pub stateAt : List Slot → Option ℕ → Stage
 stateAt ss none = committed
 stateAt ss (some j) = stateWord (slotAt ss j .state)
 
@@ -41,7 +41,7 @@ roomAt ss none = 0
 roomAt ss (some j) = roomOf (slotAt ss j .state)
 
 -- the same of a number
-abbrev pub wordOf : List Slot → ℕ → State
+abbrev pub wordOf : List Slot → ℕ → Stage
 wordOf ss n = stateAt ss (slotOf ss n)
 
 abbrev pub roomedOf : List Slot → ℕ → Bool
@@ -71,12 +71,12 @@ tie-stays ss ss′ m n em en f t = record {
 }
 
 -- is the state that of a change on the store; on its way
-abbrev pub isDone : State → Bool
+abbrev pub isDone : Stage → Bool
 isDone waiting = false
 isDone inFlight = false
 isDone committed = true
 
-abbrev pub isOut : State → Bool
+abbrev pub isOut : Stage → Bool
 isOut waiting = false
 isOut inFlight = true
 isOut committed = false
@@ -113,7 +113,7 @@ not-hard (state.Waiting (hold.Soft r)) e n = eq-eqb r r refl
 not-hard (state.InFlight k) e n = e
 
 -- whatever is out is in flight
-pub out-flies : (s : State) → isOut s ≡ true → s ≡ inFlight
+pub out-flies : (s : Stage) → isOut s ≡ true → s ≡ inFlight
 out-flies waiting e = absurd (clash e refl)
 out-flies inFlight e = refl
 out-flies committed e = absurd (clash e refl)

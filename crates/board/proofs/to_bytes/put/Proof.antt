@@ -5,8 +5,8 @@ use lib.ListN.{length-set}
 use Rattle.board.specs.Layout.{inBytes}
 use Rattle.board.proofs.Laid.{set-four}
 use borrow.Author.Needs.{needs}
-use Rattle.board.proofs.write.put.Statement.{statement}
-use Rattle.board.proofs.write.put.Tie as tie
+use Rattle.board.proofs.to_bytes.put.Statement.{statement}
+use Rattle.board.proofs.to_bytes.put.Tie as tie
 
 cast-bytes : tie.Need-cast-bytes
 cast-bytes c = search needs

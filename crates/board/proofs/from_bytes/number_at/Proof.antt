@@ -3,8 +3,8 @@ use native.Mathlib.Omega.{arith}
 use denote.Ref.{now}
 use Rattle.board.proofs.Numbers.{number-4}
 use borrow.Author.Needs.{needs}
-use Rattle.board.proofs.read.number_at.Statement.{statement}
-use Rattle.board.proofs.read.number_at.Tie as tie
+use Rattle.board.proofs.from_bytes.number_at.Statement.{statement}
+use Rattle.board.proofs.from_bytes.number_at.Tie as tie
 
 shared-slice-read-wide : tie.Need-shared-slice-read-wide
 shared-slice-read-wide c = search needs

@@ -14,8 +14,8 @@ use Rattle.cache.specs.Seen.{seen}
 use Rattle.board.specs.Layout.{inBytes, slotBytes, slotsBytes, bytesOf}
 use Rattle.board.proofs.Length.{stored-whole, stored-other}
 use Rattle.board.proofs.Laid.{Over, laid, length-slots, slots-more, length-table}
-use Rattle.board.proofs.write.store.Statement.{statement}
-use Rattle.board.proofs.write.store.Tie as tie
+use Rattle.board.proofs.to_bytes.store.Statement.{statement}
+use Rattle.board.proofs.to_bytes.store.Tie as tie
 
 abbrev Inv-loop : tie.InvT-loop
 Inv-loop bytes₀ t i₀ bytes i = (i ≤ 64) × Over bytes₀ 8 (slotsBytes (take i (t .slots))) bytes

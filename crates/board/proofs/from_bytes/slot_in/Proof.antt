@@ -3,8 +3,8 @@ use mathlib.Core.Path.{ap₂, _∙_}
 use Rattle.board.specs.Layout.{stateOf, slotIn}
 use borrow.Author.Needs.{needs}
 use Rattle.board.proofs.RoundTrip.{same-slot}
-use Rattle.board.proofs.read.slot_in.Statement.{statement}
-use Rattle.board.proofs.read.slot_in.Tie as tie
+use Rattle.board.proofs.from_bytes.slot_in.Statement.{statement}
+use Rattle.board.proofs.from_bytes.slot_in.Tie as tie
 
 number-at-requires : tie.Need-number-at-requires
 number-at-requires c κs = search needs

@@ -7,8 +7,8 @@ use Rattle.rules.specs.Slots.{roomOf}
 use Rattle.board.specs.Layout.{inBytes, slotBytes}
 use Rattle.board.proofs.Laid.{laid}
 use borrow.Author.Needs.{needs}
-use Rattle.board.proofs.write.put_slot.Statement.{statement}
-use Rattle.board.proofs.write.put_slot.Tie as tie
+use Rattle.board.proofs.to_bytes.put_slot.Statement.{statement}
+use Rattle.board.proofs.to_bytes.put_slot.Tie as tie
 
 tag-of-requires : tie.Need-tag-of-requires
 tag-of-requires c κs = search needs

@@ -1,7 +1,7 @@
 -- `read::state_of` meets its contract: each tag in turn. Assumes nothing.
 use borrow.Author.Tests.{ne-eqb}
-use Rattle.board.proofs.read.state_of.Statement.{statement}
-use Rattle.board.proofs.read.state_of.Tie as tie
+use Rattle.board.proofs.from_bytes.state_of.Statement.{statement}
+use Rattle.board.proofs.from_bytes.state_of.Tie as tie
 
 returns : tie.Need-returns
 returns c = rw (c .match .keys1)

@@ -8,8 +8,8 @@ use Rattle.board.specs.Layout.{inBytes}
 use Rattle.board.proofs.Numbers.{bytes-8}
 use Rattle.board.proofs.Laid.{laid, length-four}
 use borrow.Author.Needs.{needs}
-use Rattle.board.proofs.write.put_befores.Statement.{statement}
-use Rattle.board.proofs.write.put_befores.Tie as tie
+use Rattle.board.proofs.to_bytes.put_befores.Statement.{statement}
+use Rattle.board.proofs.to_bytes.put_befores.Tie as tie
 
 cast-put : tie.Need-cast-put
 cast-put c = search needs

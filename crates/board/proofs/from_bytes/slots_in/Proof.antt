@@ -5,8 +5,8 @@ use native.Mathlib.Omega.{arith}
 use Rattle.slots.proofs.Walked.{Walked, walk-starts, walk-goes-on, walk-ends}
 use Rattle.board.specs.Layout.{slotIn, slotStart, tableIn}
 use borrow.Author.Needs.{needs}
-use Rattle.board.proofs.read.slots_in.Statement.{statement}
-use Rattle.board.proofs.read.slots_in.Tie as tie
+use Rattle.board.proofs.from_bytes.slots_in.Statement.{statement}
+use Rattle.board.proofs.from_bytes.slots_in.Tie as tie
 
 abbrev Inv-loop : tie.InvT-loop
 Inv-loop bytes slots₀ i₀ slots i = (i ≤ 64) × Walked (λ k s. slotIn bytes (slotStart k)) slots₀ slots i

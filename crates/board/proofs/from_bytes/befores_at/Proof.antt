@@ -3,8 +3,8 @@ use native.Mathlib.Omega.{arith}
 use denote.Ref.{now}
 use Rattle.board.proofs.Numbers.{number-8}
 use borrow.Author.Needs.{needs}
-use Rattle.board.proofs.read.befores_at.Statement.{statement}
-use Rattle.board.proofs.read.befores_at.Tie as tie
+use Rattle.board.proofs.from_bytes.befores_at.Statement.{statement}
+use Rattle.board.proofs.from_bytes.befores_at.Tie as tie
 
 number-at-requires : tie.Need-number-at-requires
 number-at-requires c κs = search needs

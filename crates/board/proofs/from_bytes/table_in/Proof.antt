@@ -5,8 +5,8 @@ use Rattle.board.specs.Layout.{tableIn}
 use Rattle.board.proofs.Length.{read-whole, read-other, opens-one}
 use denote.Ref.{now}
 use borrow.Author.Needs.{needs}
-use Rattle.board.proofs.read.table_in.Statement.{statement}
-use Rattle.board.proofs.read.table_in.Tie as tie
+use Rattle.board.proofs.from_bytes.table_in.Statement.{statement}
+use Rattle.board.proofs.from_bytes.table_in.Tie as tie
 
 open-requires : tie.Need-open-requires
 open-requires c κs = search needs

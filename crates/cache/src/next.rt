@@ -1,0 +1,17 @@
+// The next table, made from the one that came.
+ghost use mathlib.Core.Path.{_≡_};
+ghost use Rattle.rules.specs.Table.{withSlots};
+ghost use Rattle.cache.specs.Seen.{seen};
+use crate::Table;
+use rules::Slot;
+
+impl Table {
+    // The table with other slots.
+    pub fn with_slots(self, slots: [Slot; 64]) -> Table
+        ensures { λ r. ⌜ seen r ≡ withSlots slots (seen self) ⌝ }
+    {
+        let mut next = self;
+        next.slots = slots;
+        next
+    }
+}
