@@ -4,10 +4,11 @@ ghost use Rattle.rules.specs.declared.Hold.the-variants.{Hard};
 ghost use Rattle.rules.specs.Slots.{withState};
 ghost use Rattle.rules.specs.Table.{slotAt, slotsBy};
 ghost use Rattle.rules.specs.Create.{turnedState, turned, acceptedSlots};
-use slots::slot::with_state;
 use rules::Hold;
 use rules::Slot;
 use rules::State;
+use rules::sizes::SLOTS;
+use slots::slot::with_state;
 
 // A waiting patch becomes hard, and has no room any more.
 fn turned_state(u: State) -> State
@@ -29,11 +30,11 @@ fn turned_slot(s: Slot) -> Slot
 }
 
 // All slots as a hard creation on the block leaves them.
-fn turned_all(slots: [Slot; 64], block: u32) -> [Slot; 64]
+fn turned_all(slots: [Slot; SLOTS], block: u32) -> [Slot; SLOTS]
     ensures { λ r. ⌜ r ≡ slotsBy (λ i. turned Hard block (slotAt slots i)) ⌝ }
 {
     let mut next = slots;
-    for i in 0..64 {
+    for i in 0..SLOTS {
         let s = next[i];
         if s.block != block {
             continue;
@@ -45,14 +46,14 @@ fn turned_all(slots: [Slot; 64], block: u32) -> [Slot; 64]
 }
 
 // The slots with the patch in slot j.
-pub fn accepted(slots: [Slot; 64], patch: Slot, j: usize, hold: Hold) -> [Slot; 64]
+pub fn accepted(slots: [Slot; SLOTS], patch: Slot, j: usize, hold: Hold) -> [Slot; SLOTS]
     ensures { λ r. ⌜ r ≡ acceptedSlots slots patch j hold ⌝ }
 {
     let mut next = slots;
     if let Hold::Hard = hold {
         next = turned_all(slots, patch.block);
     }
-    if j < 64 {
+    if j < SLOTS {
         next[j] = patch;
     }
     next

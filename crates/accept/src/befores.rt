@@ -4,6 +4,7 @@ ghost use Prim.Native.Nat.{_<_, _^_};
 ghost use Rattle.rules.specs.Create.{isIn, shares, befores};
 ghost use Rattle.accept.specs.OneSlot.{follows};
 use rules::Slot;
+use rules::sizes::SLOTS;
 use slots::words::is_used;
 
 // Whether n is one of the numbers.
@@ -52,11 +53,11 @@ fn follows(s: Slot, block: u32, offset: u32, bytes: &[u8], numbers: &[u32]) -> b
     shares(s.offset, s.len, offset, bytes.len())
 }
 
-pub fn befores(slots: [Slot; 64], block: u32, offset: u32, bytes: &[u8], numbers: &[u32]) -> u64
+pub fn befores(slots: [Slot; SLOTS], block: u32, offset: u32, bytes: &[u8], numbers: &[u32]) -> u64
     ensures { λ r. ⌜ r ≡ befores slots (record { block = block; offset = offset; bytes = now (bytes .entry); named = now (numbers .entry) }) ⌝ }
 {
     let mut set: u64 = 0;
-    for i in 0..64 {
+    for i in 0..SLOTS {
         set = masks::with_if(set, i, follows(slots[i], block, offset, bytes, numbers));
     }
     set

@@ -6,6 +6,7 @@ ghost use mathlib.Core.Option.{some};
 ghost use Rattle.board.specs.Calls.{OpenCall, CreateCall, WriteCall, CompleteCall, AskCall, CountCall, holdNumber};
 use crate::from_bytes::is_table;
 use crate::from_bytes::table_in;
+use crate::layout::TABLE_BYTES;
 use crate::to_bytes::store;
 use cache::Table;
 use rules::Answer;
@@ -14,13 +15,18 @@ use rules::CountAnswer;
 use rules::CreateAnswer;
 use rules::Hold;
 use rules::WriteAnswer;
+use rules::refusals::BUFFER_SIZE;
+use rules::refusals::NOT_SOUND;
+use rules::sizes::BLOCK_BYTES;
+use rules::sizes::IMAGE_BYTES;
+use rules::sizes::UNDO_BYTES;
 
 #[no_mangle]
 pub extern "C" fn board_open(table: &mut [u8], first: u32) -> u32
     ensures { λ r. ⌜ OpenCall (now (table .entry)) first r (now (table .exit)) ⌝ }
 {
-    if table.len() != 2056 {
-        return 2;
+    if table.len() != TABLE_BYTES {
+        return NOT_SOUND;
     }
     let o = Table::open(first);
     let next = o.table;
@@ -68,13 +74,13 @@ pub extern "C" fn board_create(
     *number = 0;
     *hold = 0;
     if !is_table(table) {
-        if image.len() != 16384 {
-            return 1;
+        if image.len() != IMAGE_BYTES {
+            return BUFFER_SIZE;
         }
-        if undo.len() != 1024 {
-            return 1;
+        if undo.len() != UNDO_BYTES {
+            return BUFFER_SIZE;
         }
-        return 2;
+        return NOT_SOUND;
     }
     let came = table_in(table);
     let o = came.create(image, undo, block, offset, bytes, named);
@@ -112,16 +118,16 @@ pub extern "C" fn board_write(
 {
     *set = 0;
     if !is_table(table) {
-        if image.len() != 16384 {
-            return 1;
+        if image.len() != IMAGE_BYTES {
+            return BUFFER_SIZE;
         }
-        if undo.len() != 1024 {
-            return 1;
+        if undo.len() != UNDO_BYTES {
+            return BUFFER_SIZE;
         }
-        if handed.len() != 256 {
-            return 1;
+        if handed.len() != BLOCK_BYTES {
+            return BUFFER_SIZE;
         }
-        return 2;
+        return NOT_SOUND;
     }
     let came = table_in(table);
     let o = came.write(image, undo, handed, block);
@@ -142,7 +148,7 @@ pub extern "C" fn board_complete(table: &mut [u8], block: u32) -> u32
     ensures { λ r. ⌜ CompleteCall (now (table .entry)) block r (now (table .exit)) ⌝ }
 {
     if !is_table(table) {
-        return 2;
+        return NOT_SOUND;
     }
     let came = table_in(table);
     let o = came.complete(block);
@@ -163,7 +169,7 @@ pub extern "C" fn board_ask(table: &[u8], asked: u32, state: &mut u32) -> u32
 {
     *state = 0;
     if !is_table(table) {
-        return 2;
+        return NOT_SOUND;
     }
     let came = table_in(table);
     let answer = came.ask(asked);
@@ -190,7 +196,7 @@ pub extern "C" fn board_count(table: &[u8], block: u32, count: &mut u32) -> u32
 {
     *count = 0;
     if !is_table(table) {
-        return 2;
+        return NOT_SOUND;
     }
     let came = table_in(table);
     let answer = came.count(block);

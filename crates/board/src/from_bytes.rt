@@ -5,12 +5,14 @@ ghost use lib.ListN.{length};
 ghost use Rattle.ground.specs.Decides.{Decides};
 ghost use Rattle.cache.specs.Seen.{seen};
 ghost use Rattle.board.specs.Layout.{tableBytes, numberAt, stateOf, slotIn, tableIn, tableRead, IsTable};
+use crate::layout::TABLE_BYTES;
 use cache::Table;
-use slots::slot::free;
 use rules::Hold;
 use rules::Kind;
 use rules::Slot;
 use rules::State;
+use rules::sizes::SLOTS;
+use slots::slot::free;
 
 // A byte, and that it is one: sums of bytes need the bound.
 fn wide(x: u8) -> u32
@@ -69,10 +71,10 @@ fn slot_in(bytes: &[u8], at: usize) -> Slot
 pub fn is_table(bytes: &[u8]) -> bool
     ensures { λ r. ⌜ Decides (IsTable (now (bytes .entry))) r ⌝ }
 {
-    if bytes.len() != 2056 {
+    if bytes.len() != TABLE_BYTES {
         return false;
     }
-    for i in 0..64 {
+    for i in 0..SLOTS {
         let tag = number_at(bytes, 8 + 32 * i);
         if 4 < tag {
             return false;
@@ -82,13 +84,13 @@ pub fn is_table(bytes: &[u8]) -> bool
 }
 
 // The 64 slots, from place 8 on.
-fn slots_in(bytes: &[u8]) -> [Slot; 64]
+fn slots_in(bytes: &[u8]) -> [Slot; SLOTS]
     requires { ⌜ length (now bytes) ≡ tableBytes ⌝ }
     ensures { λ r. ⌜ r ≡ tableIn (now (bytes .entry)) .slots ⌝ }
 {
     let slot = free();
-    let mut slots = [slot; 64];
-    for i in 0..64 {
+    let mut slots = [slot; SLOTS];
+    for i in 0..SLOTS {
         let s = slot_in(bytes, 8 + 32 * i);
         slots[i] = s;
     }
@@ -99,7 +101,7 @@ fn slots_in(bytes: &[u8]) -> [Slot; 64]
 pub fn table_in(bytes: &[u8]) -> Table
     ensures { λ r. ⌜ seen r ≡ tableRead (now (bytes .entry)) ⌝ }
 {
-    if bytes.len() != 2056 {
+    if bytes.len() != TABLE_BYTES {
         let o = Table::open(1);
         return o.table;
     }

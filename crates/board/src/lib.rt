@@ -3,4 +3,5 @@
 // No function asks anything of its caller: bytes that are no table are refused by number.
 pub mod calls;
 mod from_bytes;
+pub mod layout;
 mod to_bytes;

@@ -6,11 +6,13 @@ ghost use mathlib.Core.Path.{_≡_};
 ghost use Rattle.spans.specs.Spans.{splice};
 ghost use Rattle.cache.specs.Seen.{seen};
 ghost use Rattle.board.specs.Layout.{inBytes, tagOf, slotBytes, tableStored};
+use crate::layout::TABLE_BYTES;
 use cache::Table;
 use rules::Hold;
 use rules::Kind;
 use rules::Slot;
 use rules::State;
+use rules::sizes::SLOTS;
 use slots::words::room_of;
 
 // The four bytes of the number x, from place `at` on.
@@ -71,12 +73,12 @@ fn put_slot(bytes: &mut [u8], at: usize, s: Slot)
 pub fn store(bytes: &mut [u8], t: Table)
     ensures { λ _. ⌜ now (bytes .exit) ≡ tableStored (now (bytes .entry)) (seen t) ⌝ }
 {
-    if bytes.len() != 2056 {
+    if bytes.len() != TABLE_BYTES {
         return;
     }
     put(bytes, 0, t.first);
     put(bytes, 4, t.next);
-    for i in 0..64 {
+    for i in 0..SLOTS {
         put_slot(bytes, 8 + 32 * i, t.slots[i]);
     }
 }

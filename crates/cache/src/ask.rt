@@ -5,6 +5,11 @@ use crate::Table;
 use rules::AskAnswer;
 use rules::CountAnswer;
 use rules::State;
+use rules::refusals::NEVER_ISSUED;
+use rules::refusals::NO_BLOCK;
+use rules::refusals::NOT_SOUND;
+use rules::sizes::LAST_BLOCK;
+use rules::sizes::LAST_SLOT;
 use slots::patches::patches_on;
 use slots::sound::is_sound;
 use slots::walks::find;
@@ -16,16 +21,16 @@ impl Table {
     {
         let slots = self.slots;
         if !is_sound(self.first, self.next, slots) {
-            return AskAnswer::Refused(2);
+            return AskAnswer::Refused(NOT_SOUND);
         }
         if number < self.first {
-            return AskAnswer::Refused(7);
+            return AskAnswer::Refused(NEVER_ISSUED);
         }
         if self.next <= number {
-            return AskAnswer::Refused(7);
+            return AskAnswer::Refused(NEVER_ISSUED);
         }
         let i = find(slots, number);
-        if 63 < i {
+        if LAST_SLOT < i {
             return AskAnswer::Committed;
         }
         let s = slots[i];
@@ -43,10 +48,10 @@ impl Table {
     {
         let slots = self.slots;
         if !is_sound(self.first, self.next, slots) {
-            return CountAnswer::Refused(2);
+            return CountAnswer::Refused(NOT_SOUND);
         }
-        if 63 < block {
-            return CountAnswer::Refused(3);
+        if LAST_BLOCK < block {
+            return CountAnswer::Refused(NO_BLOCK);
         }
         let on = patches_on(slots, block);
         CountAnswer::Granted(u64::count_ones(on.waiting))

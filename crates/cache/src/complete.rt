@@ -3,8 +3,12 @@ ghost use Rattle.rules.specs.Calls.{Completes};
 ghost use Rattle.cache.specs.Seen.{seen, completion};
 use crate::Completed;
 use crate::Table;
-use settle::complete::completed;
 use rules::Answer;
+use rules::refusals::NO_BLOCK;
+use rules::refusals::NONE_IN_FLIGHT;
+use rules::refusals::NOT_SOUND;
+use rules::sizes::LAST_BLOCK;
+use settle::complete::completed;
 use slots::patches::patches_on;
 use slots::sound::is_sound;
 
@@ -16,13 +20,13 @@ impl Table {
         if !is_sound(self.first, self.next, slots) {
             return Completed {
                 table: self,
-                answer: Answer::Refused(2),
+                answer: Answer::Refused(NOT_SOUND),
             };
         }
-        if 63 < block {
+        if LAST_BLOCK < block {
             return Completed {
                 table: self,
-                answer: Answer::Refused(3),
+                answer: Answer::Refused(NO_BLOCK),
             };
         }
         let on = patches_on(slots, block);
@@ -30,7 +34,7 @@ impl Table {
         if landed == 0 {
             return Completed {
                 table: self,
-                answer: Answer::Refused(14),
+                answer: Answer::Refused(NONE_IN_FLIGHT),
             };
         }
         Completed {

@@ -12,15 +12,35 @@ ghost use Rattle.cache.specs.Judged.{Judged, keptAt, withPatch};
 ghost use Rattle.rules.proofs.Granted.{CreatePassed};
 use crate::Created;
 use crate::Table;
+use accept::accepted::accepted;
 use accept::befores::befores;
-use accept::types::Holding;
 use accept::hold::hold_for;
 use accept::named::unissued;
-use accept::accepted::accepted;
+use accept::types::Holding;
 use rules::CreateAnswer;
 use rules::Hold;
 use rules::Slot;
 use rules::State;
+use rules::refusals::BUFFER_SIZE;
+use rules::refusals::DATA_LENGTH;
+use rules::refusals::MANY_NAMES;
+use rules::refusals::NEVER_ISSUED;
+use rules::refusals::NO_BLOCK;
+use rules::refusals::NO_NUMBER;
+use rules::refusals::NO_ROOM;
+use rules::refusals::NO_SLOT;
+use rules::refusals::NOT_SOUND;
+use rules::refusals::PAST_THE_END;
+use rules::sizes::BLOCK_BYTES;
+use rules::sizes::IMAGE_BYTES;
+use rules::sizes::LAST_BLOCK;
+use rules::sizes::LAST_NEXT;
+use rules::sizes::LAST_SLOT;
+use rules::sizes::MOST_BYTES;
+use rules::sizes::MOST_NAMED;
+use rules::sizes::ROOM_BYTES;
+use rules::sizes::SLOTS;
+use rules::sizes::UNDO_BYTES;
 use slots::sound::judge;
 
 // The old bytes of a soft patch's range, n from place `at`, into the first bytes of its room.
@@ -28,7 +48,7 @@ fn keep(undo: &mut [u8], image: &[u8], hold: Hold, at: usize, n: usize)
     ensures { λ _. ⌜ now (undo .exit) ≡ keptAt (now (undo .entry)) (now (image .entry)) at n hold ⌝ }
 {
     if let Hold::Soft(r) = hold {
-        spans::copy(undo, (r as usize) * 64, image, at, n);
+        spans::copy(undo, (r as usize) * ROOM_BYTES, image, at, n);
     }
 }
 
@@ -53,35 +73,35 @@ impl Table {
             (record { block = block; offset = offset; bytes = now (bytes .entry); named = now (named .entry) }))
             r ⌝ }
     {
-        if image.len() != 16384 {
-            return 1;
+        if image.len() != IMAGE_BYTES {
+            return BUFFER_SIZE;
         }
-        if undo.len() != 1024 {
-            return 1;
+        if undo.len() != UNDO_BYTES {
+            return BUFFER_SIZE;
         }
         if !sound {
-            return 2;
+            return NOT_SOUND;
         }
-        if 63 < block {
-            return 3;
+        if LAST_BLOCK < block {
+            return NO_BLOCK;
         }
         if bytes.len() == 0 {
-            return 4;
+            return DATA_LENGTH;
         }
-        if 64 < bytes.len() {
-            return 4;
+        if MOST_BYTES < bytes.len() {
+            return DATA_LENGTH;
         }
-        if 256 - bytes.len() < offset as usize {
-            return 5;
+        if BLOCK_BYTES - bytes.len() < offset as usize {
+            return PAST_THE_END;
         }
-        if 8 < named.len() {
-            return 6;
+        if MOST_NAMED < named.len() {
+            return MANY_NAMES;
         }
         if unissued(self.first, self.next, named) {
-            return 7;
+            return NEVER_ISSUED;
         }
-        if self.next == 1000000001 {
-            return 8;
+        if self.next == LAST_NEXT {
+            return NO_NUMBER;
         }
         0
     }
@@ -135,21 +155,21 @@ impl Table {
                 answer: CreateAnswer::Refused(refusal),
             };
         }
-        let j = masks::lowest_outside(verdict.used, 64);
-        if 63 < j {
+        let j = masks::lowest_outside(verdict.used, SLOTS);
+        if LAST_SLOT < j {
             return Created {
                 table: self,
-                answer: CreateAnswer::Refused(9),
+                answer: CreateAnswer::Refused(NO_SLOT),
             };
         }
         let Holding::Of(hold) = hold_for(slots, block, verdict.rooms) else {
             return Created {
                 table: self,
-                answer: CreateAnswer::Refused(10),
+                answer: CreateAnswer::Refused(NO_ROOM),
             };
         };
         let patch = self.patch(block, offset, bytes, named, hold);
-        let at = (block as usize) * 256 + (offset as usize);
+        let at = (block as usize) * BLOCK_BYTES + (offset as usize);
         keep(undo, image, hold, at, bytes.len());
         spans::copy(image, at, bytes, 0, bytes.len());
         Created {

@@ -13,13 +13,14 @@ use rules::Answer;
 use rules::CreateAnswer;
 use rules::Slot;
 use rules::WriteAnswer;
+use rules::sizes::SLOTS;
 
 // First and next number, and 64 slots. It sits in memory that survives the radio's sleep, so every
 // call takes it as input like the rest.
 pub struct Table {
     pub first: u32,
     pub next: u32,
-    pub slots: [Slot; 64],
+    pub slots: [Slot; SLOTS],
 }
 
 pub struct Opened {

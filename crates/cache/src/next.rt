@@ -4,10 +4,11 @@ ghost use Rattle.rules.specs.Table.{withSlots};
 ghost use Rattle.cache.specs.Seen.{seen};
 use crate::Table;
 use rules::Slot;
+use rules::sizes::SLOTS;
 
 impl Table {
     // The table with other slots.
-    pub fn with_slots(self, slots: [Slot; 64]) -> Table
+    pub fn with_slots(self, slots: [Slot; SLOTS]) -> Table
         ensures { λ r. ⌜ seen r ≡ withSlots slots (seen self) ⌝ }
     {
         let mut next = self;

@@ -5,8 +5,11 @@ ghost use Rattle.cache.specs.Seen.{seen, opening};
 ghost use mathlib.Core.Path.{_≡_};
 use crate::Opened;
 use crate::Table;
-use slots::slot::free;
 use rules::Answer;
+use rules::refusals::FIRST_NUMBER;
+use rules::sizes::LAST_NUMBER;
+use rules::sizes::SLOTS;
+use slots::slot::free;
 
 impl Table {
     // The empty table whose first and next number are n.
@@ -17,7 +20,7 @@ impl Table {
         Table {
             first: n,
             next: n,
-            slots: [slot; 64],
+            slots: [slot; SLOTS],
         }
     }
 
@@ -27,13 +30,13 @@ impl Table {
         if first == 0 {
             return Opened {
                 table: Table::empty(1),
-                answer: Answer::Refused(15),
+                answer: Answer::Refused(FIRST_NUMBER),
             };
         }
-        if 1000000000 < first {
+        if LAST_NUMBER < first {
             return Opened {
                 table: Table::empty(1),
-                answer: Answer::Refused(15),
+                answer: Answer::Refused(FIRST_NUMBER),
             };
         }
         Opened {

@@ -6,13 +6,23 @@ ghost use Rattle.cache.specs.Seen.{seen, writing};
 ghost use Rattle.cache.specs.Judged.{Judged, WriteReady};
 use crate::Table;
 use crate::Written;
-use send::sent::sent;
 use rules::WriteAnswer;
+use rules::refusals::BUFFER_SIZE;
+use rules::refusals::IN_FLIGHT;
+use rules::refusals::NO_BLOCK;
+use rules::refusals::NONE_MAY_GO;
+use rules::refusals::NONE_WAITS;
+use rules::refusals::NOT_SOUND;
+use rules::sizes::BLOCK_BYTES;
+use rules::sizes::IMAGE_BYTES;
+use rules::sizes::LAST_BLOCK;
+use rules::sizes::UNDO_BYTES;
 use send::hand_out::hand_out;
 use send::largest::largest;
-use slots::types::Patches;
+use send::sent::sent;
 use slots::patches::patches_on;
 use slots::sound::is_sound;
+use slots::types::Patches;
 
 impl Table {
     // The first of the refusals 1 to 12 that holds, or 0.
@@ -23,27 +33,27 @@ impl Table {
             (WriteReady (seen self) (now (image .entry)) (now (undo .entry)) (now (handed .entry)) block)
             r ⌝ }
     {
-        if image.len() != 16384 {
-            return 1;
+        if image.len() != IMAGE_BYTES {
+            return BUFFER_SIZE;
         }
-        if undo.len() != 1024 {
-            return 1;
+        if undo.len() != UNDO_BYTES {
+            return BUFFER_SIZE;
         }
-        if handed.len() != 256 {
-            return 1;
+        if handed.len() != BLOCK_BYTES {
+            return BUFFER_SIZE;
         }
         let slots = self.slots;
         if !is_sound(self.first, self.next, slots) {
-            return 2;
+            return NOT_SOUND;
         }
-        if 63 < block {
-            return 3;
+        if LAST_BLOCK < block {
+            return NO_BLOCK;
         }
         if on.in_flight != 0 {
-            return 11;
+            return IN_FLIGHT;
         }
         if on.waiting == 0 {
-            return 12;
+            return NONE_WAITS;
         }
         0
     }
@@ -65,7 +75,7 @@ impl Table {
         if set == 0 {
             return Written {
                 table: self,
-                answer: WriteAnswer::Refused(13),
+                answer: WriteAnswer::Refused(NONE_MAY_GO),
             };
         }
         hand_out(

@@ -8,11 +8,14 @@ ghost use Rattle.masks.specs.Sets.{has, setOf, within, Meet};
 ghost use Rattle.masks.specs.Lowest.{LowestOr, Outside};
 ghost use Rattle.ground.specs.Decides.{Decides};
 
+// The last slot that a set can have.
+const LAST_SLOT: usize = 63;
+
 // Whether slot i is in the set.
 pub fn has(set: u64, i: usize) -> bool
     ensures { λ r. ⌜ r ≡ has set i ⌝ }
 {
-    if 63 < i {
+    if LAST_SLOT < i {
         return false;
     }
     (set >> i) & 1 == 1
@@ -22,7 +25,7 @@ pub fn has(set: u64, i: usize) -> bool
 pub fn with(set: u64, i: usize) -> u64
     ensures { λ r. ⌜ r ≡ setOf (λ k. has set k || eqb k i) ⌝ }
 {
-    if 63 < i {
+    if LAST_SLOT < i {
         return set;
     }
     set | 1u64 << i

@@ -1,5 +1,7 @@
 // The types that document 01 names by place, and nothing that runs: its rules are the definitions
 // of specs/, which every promise above cites. The table itself stands with its methods, in `cache`.
+pub mod refusals;
+pub mod sizes;
 
 // A waiting patch is hard, or soft with its undo room.
 pub enum Hold {

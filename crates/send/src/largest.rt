@@ -4,16 +4,17 @@
 ghost use mathlib.Core.Path.{_≡_};
 ghost use Rattle.rules.specs.Rounds.{searched};
 use rules::Slot;
+use rules::sizes::SLOTS;
 use slots::types::Patches;
 
-pub fn largest(slots: [Slot; 64], on: Patches) -> u64
+pub fn largest(slots: [Slot; SLOTS], on: Patches) -> u64
     ensures { λ r. ⌜ r ≡ searched slots (on .hard) (on .waiting) ⌝ }
 {
     let hard = on.hard;
     let mut began = on.waiting;
     let set = loop {
         let mut kept = began;
-        'walk: for i in 0..64 {
+        'walk: for i in 0..SLOTS {
             if masks::has(began, i) {
                 let s = slots[i];
                 if !masks::within(s.befores, began) {

@@ -2,11 +2,12 @@
 ghost use mathlib.Core.Path.{_≡_};
 ghost use mathlib.Core.Bool.{true};
 ghost use Rattle.rules.specs.Write.{sentState, sentSlot, sentSlots};
-use slots::slot::with_state;
 use rules::Hold;
 use rules::Kind;
 use rules::Slot;
 use rules::State;
+use rules::sizes::SLOTS;
+use slots::slot::with_state;
 
 // A patch in flight is hard or soft as it waited.
 fn sent_state(u: State) -> State
@@ -30,11 +31,11 @@ fn sent_slot(s: Slot) -> Slot
     with_state(s, sent_state(u))
 }
 
-pub fn sent(slots: [Slot; 64], set: u64) -> [Slot; 64]
+pub fn sent(slots: [Slot; SLOTS], set: u64) -> [Slot; SLOTS]
     ensures { λ r. ⌜ r ≡ sentSlots slots set ⌝ }
 {
     let mut next = slots;
-    for i in 0..64 {
+    for i in 0..SLOTS {
         if !masks::has(set, i) {
             continue;
         }

@@ -2,8 +2,9 @@
 ghost use mathlib.Core.Path.{_≡_};
 ghost use Rattle.rules.specs.Slots.{withBefores};
 ghost use Rattle.rules.specs.Complete.{landedSlot, landedSlots};
-use slots::slot::free;
 use rules::Slot;
+use rules::sizes::SLOTS;
+use slots::slot::free;
 use slots::words::is_used;
 
 fn with_befores(s: Slot, befores: u64) -> Slot
@@ -30,11 +31,11 @@ fn landed_slot(s: Slot, landed: u64, commits: bool) -> Slot
 }
 
 // All slots so, whichever set it is: complete passes that of a block's patches in flight.
-pub fn completed(slots: [Slot; 64], landed: u64) -> [Slot; 64]
+pub fn completed(slots: [Slot; SLOTS], landed: u64) -> [Slot; SLOTS]
     ensures { λ r. ⌜ r ≡ landedSlots slots landed ⌝ }
 {
     let mut next = slots;
-    for i in 0..64 {
+    for i in 0..SLOTS {
         let s = landed_slot(next[i], landed, masks::has(landed, i));
         next[i] = s;
     }

@@ -7,6 +7,7 @@ use crate::types::Patches;
 use rules::Hold;
 use rules::Slot;
 use rules::State;
+use rules::sizes::SLOTS;
 
 fn is_waiting(u: State) -> bool
     ensures { λ r. ⌜ r ≡ isWaiting u ⌝ }
@@ -41,13 +42,13 @@ fn is_hard(u: State) -> bool
     }
 }
 
-pub fn patches_on(slots: [Slot; 64], block: u32) -> Patches
+pub fn patches_on(slots: [Slot; SLOTS], block: u32) -> Patches
     ensures { λ r. ⌜ PatchesOn slots block r ⌝ }
 {
     let mut waiting: u64 = 0;
     let mut hard: u64 = 0;
     let mut in_flight: u64 = 0;
-    for i in 0..64 {
+    for i in 0..SLOTS {
         let s = slots[i];
         if s.block != block {
             continue;

@@ -14,6 +14,13 @@ use crate::words::room_of;
 use rules::Hold;
 use rules::Slot;
 use rules::State;
+use rules::sizes::BLOCK_END;
+use rules::sizes::LAST_BLOCK;
+use rules::sizes::LAST_NEXT;
+use rules::sizes::LAST_NUMBER;
+use rules::sizes::LAST_ROOM;
+use rules::sizes::MOST_LEN;
+use rules::sizes::SLOTS;
 
 // Whether the first and the next number are within their bounds.
 fn header_in_range(first: u32, next: u32) -> bool
@@ -22,13 +29,13 @@ fn header_in_range(first: u32, next: u32) -> bool
     if first < 1 {
         return false;
     }
-    if 1000000000 < first {
+    if LAST_NUMBER < first {
         return false;
     }
     if next < first {
         return false;
     }
-    if 1000000001 < next {
+    if LAST_NEXT < next {
         return false;
     }
     true
@@ -44,16 +51,16 @@ fn in_range(s: Slot, first: u32, next: u32) -> bool
     if next <= s.number {
         return false;
     }
-    if 63 < s.block {
+    if LAST_BLOCK < s.block {
         return false;
     }
     if s.len < 1 {
         return false;
     }
-    if 64 < s.len {
+    if MOST_LEN < s.len {
         return false;
     }
-    if 256 - s.len < s.offset {
+    if BLOCK_END - s.len < s.offset {
         return false;
     }
     true
@@ -70,7 +77,7 @@ fn sound_alone(s: Slot, i: usize, first: u32, next: u32) -> bool
         return false;
     }
     let u = s.state;
-    if 15 < room_of(u) {
+    if LAST_ROOM < room_of(u) {
         return false;
     }
     true
@@ -117,7 +124,7 @@ fn unsound() -> Verdict
 // The first and the next number, then slot by slot. What is asked of a patch beside others is
 // gathered along the way, so that one walk does: the rooms, the slots in use, all befores, and the
 // marks of the numbers, of which only one that is there already asks for a search.
-pub fn judge(first: u32, next: u32, slots: [Slot; 64]) -> Verdict
+pub fn judge(first: u32, next: u32, slots: [Slot; SLOTS]) -> Verdict
     ensures { λ r. ⌜ IsVerdict first next slots r ⌝ }
 {
     if !header_in_range(first, next) {
@@ -127,7 +134,7 @@ pub fn judge(first: u32, next: u32, slots: [Slot; 64]) -> Verdict
     let mut rooms: u64 = 0;
     let mut used: u64 = 0;
     let mut befores: u64 = 0;
-    for i in 0..64 {
+    for i in 0..SLOTS {
         let s = slots[i];
         let u = s.state;
         if !is_used(u) {
@@ -159,7 +166,7 @@ pub fn judge(first: u32, next: u32, slots: [Slot; 64]) -> Verdict
     }
 }
 
-pub fn is_sound(first: u32, next: u32, slots: [Slot; 64]) -> bool
+pub fn is_sound(first: u32, next: u32, slots: [Slot; SLOTS]) -> bool
     ensures { λ r. ⌜ Decides (Sound (tableOf first next slots)) r ⌝ }
 {
     let verdict = judge(first, next, slots);
