@@ -112,14 +112,28 @@ hold-fits {t} {image} {undo} {c} {o} {n} {h} made p = by (g .hold) (g .hard-or-s
 
 module _ {table image undo : List ℕ} {c : Change} {t : Table} (o : Creation) (i : IsTable table) (e : t ≡ tableIn table) (h : Creates t image undo c o) where
   create-end : (a : CreateAnswer) → o .answer ≡ a → (s : CreateEnd)
-      → s ≡ record { refusal = createNumber a; number = patchNumber a; hold = holdNumber (hardOrSoft a); table = tableAfter (createNumber a) table (o .table); image = o .image; undo = o .undo }
+      → s ≡ record {
+        refusal = createNumber a;
+        number = patchNumber a;
+        hold = holdNumber (hardOrSoft a);
+        table = tableAfter (createNumber a) table (o .table);
+        image = o .image;
+        undo = o .undo;
+      }
       → CreateCall table image undo c s
   create-end a p s q = record {
     is-table = λ d. (
       o,
       subst (λ (x : Table). Creates x image undo c o) e h,
       subst
-          (λ (y : CreateAnswer). s ≡ record { refusal = createNumber y; number = patchNumber y; hold = holdNumber (hardOrSoft y); table = tableAfter (createNumber y) table (o .table); image = o .image; undo = o .undo }) (sym p) q,
+          (λ (y : CreateAnswer). s ≡ record {
+            refusal = createNumber y;
+            number = patchNumber y;
+            hold = holdNumber (hardOrSoft y);
+            table = tableAfter (createNumber y) table (o .table);
+            image = o .image;
+            undo = o .undo;
+          }) (sym p) q,
     );
     no-table = λ d. absurd (d i);
   }
@@ -150,14 +164,28 @@ write-none table image undo handed b k d f = record { is-table = λ i. absurd (d
 module _ {table image undo handed : List ℕ} {b : ℕ} {t : Table} (o : Writing) (i : IsTable table) (e : t ≡ tableIn table)
     (h : Writes t image undo handed b o) where
   write-end : (a : WriteAnswer) → o .answer ≡ a → (s : WriteEnd)
-      → s ≡ record { refusal = writeNumber a; set = sentSet a; table = tableAfter (writeNumber a) table (o .table); image = o .image; undo = o .undo; handed = o .block }
+      → s ≡ record {
+        refusal = writeNumber a;
+        set = sentSet a;
+        table = tableAfter (writeNumber a) table (o .table);
+        image = o .image;
+        undo = o .undo;
+        handed = o .block;
+      }
       → WriteCall table image undo handed b s
   write-end a p s q = record {
     is-table = λ d. (
       o,
       subst (λ (x : Table). Writes x image undo handed b o) e h,
       subst
-          (λ (y : WriteAnswer). s ≡ record { refusal = writeNumber y; set = sentSet y; table = tableAfter (writeNumber y) table (o .table); image = o .image; undo = o .undo; handed = o .block }) (sym p) q,
+          (λ (y : WriteAnswer). s ≡ record {
+            refusal = writeNumber y;
+            set = sentSet y;
+            table = tableAfter (writeNumber y) table (o .table);
+            image = o .image;
+            undo = o .undo;
+            handed = o .block;
+          }) (sym p) q,
     );
     no-table = λ d. absurd (d i);
   }

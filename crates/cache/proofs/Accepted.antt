@@ -107,7 +107,15 @@ module _ (t : Table) (image undo : List ℕ) (c : Change) where
     late : {k : ℕ} → First (case 9 (NoSlot (t .slots)) ∷ case 10 (NoRoom (t .slots) c) ∷ []) k → First (createCases t image undo c) k
     late f =
         past5
-        (record { image-whole = r .image-whole; undo-whole = r .undo-whole; sound = r .sound; is-block = r .is-block; least = λ e. omega (arith, r .len-least); most = r .len-most; ends = r .ends })
+        (record {
+          image-whole = r .image-whole;
+          undo-whole = r .undo-whole;
+          sound = r .sound;
+          is-block = r .is-block;
+          least = λ e. omega (arith, r .len-least);
+          most = r .len-most;
+          ends = r .ends;
+        })
         (passes (λ m. omega (arith, r .few-named)) (passes (λ u. u .2 (r .issued (u .0) (u .1))) (passes (λ m. omega (arith, r .last)) f)))
 
     pub create-no-slot : NoSlot (t .slots) → Creates t image undo c (createRefused t image undo 9)

@@ -246,12 +246,6 @@ unfolding howMany
 many-le p zero = omega arith
 many-le p (suc n) = omega (arith, many-le p n, one-le (p n) true (λ e. refl))
 
-pub many-ext : (n : ℕ) (p q : ℕ → Bool) → ((i : ℕ) → i < n → p i ≡ q i) → howMany p n ≡ howMany q n
-unfolding howMany
-many-ext zero p q f = refl
-many-ext (suc n) p q f =
-    ap₂ (λ (m : ℕ) (b : Bool). m + cond b 1 0) (many-ext n p q (λ i l. f i (omega arith))) (f n (omega arith))
-
 -- a test that passes only what another passes: no more pass, and where as many pass the tests are one
 same-one : (a b : Bool) → _≡_ {A = ℕ} (cond a 1 0) (cond b 1 0) → a ≡ b
 same-one true true e = refl

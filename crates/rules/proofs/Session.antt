@@ -28,7 +28,11 @@ abbrev r0 : Radio
 r0 = record { table = opened 1; image = replicate imageBytes 0; undo = replicate undoBytes 7 }
 
 g0 : Good r0
-g0 = record { sound = opened-sound 1 (omega arith) (omega arith); image-whole = length-replicate {A = ℕ} imageBytes 0; undo-whole = length-replicate {A = ℕ} undoBytes 7 }
+g0 = record {
+  sound = opened-sound 1 (omega arith) (omega arith);
+  image-whole = length-replicate {A = ℕ} imageBytes 0;
+  undo-whole = length-replicate {A = ℕ} undoBytes 7;
+}
 
 abbrev c1 : Change
 c1 = record { block = 1; offset = 0; bytes = replicate 8 65; named = [] }

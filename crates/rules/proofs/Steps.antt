@@ -120,7 +120,11 @@ module _ (r : Radio) (g : Good r) where
 
   good-created : (c : Change) (o : Creation) → Creates (r .table) (r .image) (r .undo) c o → length (o .image) ≡ length (r .image)
       → length (o .undo) ≡ length (r .undo) → Good (afterCreate o)
-  good-created c o p i u = record { sound = create-sound (r .table) (r .image) (r .undo) c o (g .sound) p; image-whole = i ∙ g .image-whole; undo-whole = u ∙ g .undo-whole }
+  good-created c o p i u = record {
+    sound = create-sound (r .table) (r .image) (r .undo) c o (g .sound) p;
+    image-whole = i ∙ g .image-whole;
+    undo-whole = u ∙ g .undo-whole;
+  }
 
   -- a granted create, and what it leaves
   pub create-row : (c : Change) (j : ℕ) (h : Hold) → inBounds (r .table) c ≡ true → Lowest slots (FreeSlot (r .table .slots)) j

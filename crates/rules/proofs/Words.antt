@@ -1,7 +1,7 @@
 -- Laws of the words on a state and on a slot: what each says of the others, and what a call leaves of it. They stand here once; who has a room, for one,
 -- can change in one definition, and these laws with it.
 use Prim.Native.Nat.{ℕ, _<_}
-use mathlib.Core.Path.{_≡_, refl, sym, ap, _∙_}
+use mathlib.Core.Path.{_≡_, refl, sym}
 use mathlib.Core.Bool.{true}
 use mathlib.Core.List.{List}
 use borrow.Author.Tests.{eq-eqb, eqb-true}
@@ -46,10 +46,6 @@ room-is state.Free r e = absurd (clash e refl)
 room-is (state.Waiting hold.Hard) r e = absurd (clash e refl)
 room-is (state.Waiting (hold.Soft q)) r e = sym (eqb-true r q e)
 room-is (state.InFlight k) r e = absurd (clash e refl)
-
--- a soft waiting patch has its room
-pub soft-roomed : {u : State} {r : ℕ} → u ≡ state.Waiting (hold.Soft r) → hasRoom u r ≡ true
-soft-roomed {u} {r} e = ap (λ (x : State). hasRoom x r) e ∙ eq-eqb r r refl
 
 -- where every patch's room is below n, so is what roomOf says of any state
 pub room-below : (u : State) (n : ℕ) → 0 < n → ((r : ℕ) → hasRoom u r ≡ true → r < n) → roomOf u < n

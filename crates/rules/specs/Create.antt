@@ -78,7 +78,14 @@ turned (hold.Soft r) b s = s
 
 -- the new patch: the number next, its block and range, waiting, with its befores
 unfoldable pub patch : Table → Change → Hold → Slot
-patch t c h = record { state = state.Waiting h; number = t .next; block = c .block; offset = c .offset; len = length (c .bytes); befores = befores (t .slots) c }
+patch t c h = record {
+  state = state.Waiting h;
+  number = t .next;
+  block = c .block;
+  offset = c .offset;
+  len = length (c .bytes);
+  befores = befores (t .slots) c;
+}
 
 -- a slot when the new patch p is accepted: p where it is `here`, and otherwise as the creation turns it
 abbrev pub acceptedSlot : Slot → Hold → Bool → Slot → Slot

@@ -28,7 +28,8 @@ slots-in-requires c κs = search needs
 returns-2 : tie.Need-returns-2
 unfolding tableIn
 returns-2 c =
-    let test = c .before .before .before in
+    let next = c .before in
+    let test = next .before .before in
     let bytes = now (test .before .before .args .bytes) in
     _∙_ {b = tableIn bytes} (cc) (sym (read-whole bytes (test .if1 .left)))
 

@@ -32,13 +32,16 @@ same-length c = search needs
 returns : tie.Need-returns
 unfolding handed
 returns c =
-    let at = c .before .before .before .before in
-    let copied = at .before .before .before in
-    let begun = copied .before .before .before in
-    let a = begun .before .before .args in
+    let back = c .before .before in
+    let at = back .before .before in
+    let rest = at .before .before in
+    let copied = rest .before in
+    let lent = copied .before .before in
+    let begun = lent .before .before in
+    let a = begun .before .args in
     let left = staying (a .waiting) (a .set) in
     let e : a .block * 256 ≡ blockStart (a .block) = omega arith in
-    c .before .before .take-all-back .ensures
+    back .take-all-back .ensures
     ∙ down-ext (a .slots) _ left (now (a .undo)) 0 (a .next) _ (λ i l. has-of left _ i (at .without .ensures) l)
     ∙ ap (backDown (a .slots) left (now (a .undo)) 0 (a .next))
     (copied .copy .ensures ∙ ap (λ (x : ℕ). splice (now (a .out)) 0 (part (now (a .image)) x 256)) e)

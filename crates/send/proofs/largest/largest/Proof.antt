@@ -61,14 +61,15 @@ walk-less c = search needs
 
 walk-again : tie.Need-walk-again Inv-walk μ-walk Inv-loop μ-loop
 walk-again c =
-    let at = c .before .before .before in
+    let test = c .before in
+    let at = test .before .before in
     let began = at .before in
     let i = at .walk .i in
     let s = began .loop .began in
     let ss = began .before .args .t1 in
     let hard = began .before .args .on .hard in
     let w = at .walk .inv .1 in
-    let here = sym (c .before .has .ensures) in (
+    let here = sym (test .has .ensures) in (
       omega arith,
       ⊎-elim
           (λ v. subst (Walked ss hard s (i + 1)) (sym (v .8))
@@ -98,22 +99,25 @@ made c =
 
 loop-less : tie.Need-loop-less Inv-walk μ-walk Inv-loop μ-loop
 loop-less c =
-    let began = c .before .before .before in
-    let r = made (c .before) in
+    let left = c .before in
+    let began = left .before .before in
+    let r = made left in
     let s = began .loop .began in
     rw r (size-less _ s (round-lt _ _ s) (began .loop .inv .0) (round-sub _ _ s) (λ e. c .if4 .left (r ∙ e)))
 
 loop-again : tie.Need-loop-again Inv-walk μ-walk Inv-loop μ-loop
 loop-again c =
-    let began = c .before .before .before in
+    let left = c .before in
+    let began = left .before .before in
     let s = began .loop .began in
-    rw (made (c .before)) (round-lt _ _ s, searched-round _ _ s (began .loop .inv .0) ∙ began .loop .inv .1)
+    rw (made left) (round-lt _ _ s, searched-round _ _ s (began .loop .inv .0) ∙ began .loop .inv .1)
 
 returns : tie.Need-returns Inv-walk μ-walk Inv-loop μ-loop
 returns c =
-    let began = c .before .before .before in
+    let left = c .before in
+    let began = left .before .before in
     let s = began .loop .began in
-    c .if4 .taken ∙ sym (searched-settled _ _ s (sym (made (c .before)) ∙ c .if4 .taken)) ∙ began .loop .inv .1
+    c .if4 .taken ∙ sym (searched-settled _ _ s (sym (made left) ∙ c .if4 .taken)) ∙ began .loop .inv .1
 
 pub largest-spec : {M : Type 1} → statement M
 largest-spec =

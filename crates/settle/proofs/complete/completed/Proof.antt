@@ -46,12 +46,13 @@ loop-less c = search needs
 
 loop-again : tie.Need-loop-again Inv-loop μ-loop
 loop-again c =
-    let test = c .before .before .before in
+    let asked = c .before in
+    let test = asked .before .before in
     let at = test .before in
     let s = slotAt (at .loop .next) (at .loop .i) in (
       omega arith,
       walk-goes-on (at .loop .inv .1) (test .loop-test .taken)
-          (c .landed-slot .ensures ∙ ap (λ (commits : Bool). landedSlot (at .before .args .landed) commits s) (c .before .has .ensures)),
+          (c .landed-slot .ensures ∙ ap (λ (commits : Bool). landedSlot (at .before .args .landed) commits s) (asked .has .ensures)),
     )
 
 returns : tie.Need-returns Inv-loop μ-loop

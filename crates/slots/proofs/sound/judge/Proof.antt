@@ -155,8 +155,10 @@ returns-4 : tie.Need-returns-4 Inv-loop μ-loop
 returns-4 c =
     let test = c .before in
     let at = test .before .before .before .before .before .before .before .before in
-    let loop = at .before .before .before .before in
-    let ss = loop .before .before .before .args .t3 in
+    let used = at .before .before in
+    let loop = used .before .before in
+    let begun = loop .before .before in
+    let ss = begun .before .args .t3 in
     let shared =
     meets-shares ss (loop .loop .i) (loop .loop .inv .rooms)
     (test .before .before .room-set .ensures) (yes-of (test .before .meets .result) (test .before .meets .ensures) (test .if6 .taken)) in
