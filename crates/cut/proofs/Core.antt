@@ -10,7 +10,8 @@ use mathlib.Core.Logic.{inl}
 use Rattle.cut.specs.Changes.{Store, Logged, after, only, Earlier}
 use Rattle.cut.specs.World.{World, Must, AskedThrough, straight, through, Step, accepts, sends, lands, fails, rests, Begun, Run, none, more}
 use Rattle.cut.specs.Cut.{afterCut, reached, landed, SafeAt}
-use Rattle.cut.proofs.Facts.{clash, same-on-block}
+use Rattle.ground.proofs.Decided.{clash}
+use Rattle.cut.proofs.Facts.{same-on-block}
 use Rattle.cut.proofs.Invariant.{Held, done, waits, together, Invariant, carried}
 use Rattle.cut.proofs.Accept.{accept-keeps}
 use Rattle.cut.proofs.Send.{send-keeps}
@@ -61,7 +62,7 @@ module _ (opening : Store) (w : World) (v : Invariant opening w) (new : ℕ → 
   held-lands : (y x : Logged) → Held w y x → landed new w y ≡ true → landed new w x ≡ true
   unfolding landed reached
   held-lands y x (done a) l = rw a
-  held-lands y x (waits a t) l = clash false (rw a at l) refl
+  held-lands y x (waits a t) l = absurd (clash (rw a at l) refl)
   held-lands y x (together a d s t) l = rw (d, ← s) (rw a at l)
 
   asked-lands : (y x : Logged) → landed new w y ≡ true → AskedThrough w y x → landed new w x ≡ true

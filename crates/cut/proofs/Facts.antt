@@ -1,48 +1,13 @@
--- Small facts that several files cite: Booleans, equal numbers, the order of a log, one change at one place.
+-- Small facts that several files cite: one block and every other, the order of a log, one change at one place.
 use Prim.Native.Nat.{ℕ}
 use mathlib.Core.Path.{_≡_, refl, sym, _∙_, subst}
-use mathlib.Core.Bool.{Bool, true, false, cond, _&&_, not, true≢false}
+use mathlib.Core.Bool.{Bool, true, false, cond}
 use mathlib.Core.List.{List, [], _∷_, List·Memᴰ, List·Memᴰ·head, List·Memᴰ·tail}
 use mathlib.Core.Logic.{_≢_, _⊎_, inl, inr}
-use lib.Dec.{eqb, T, eqb→eq, eqb-refl}
+use borrow.Author.Tests.{eqb-true}
+use lib.Dec.{eqb}
+use Rattle.ground.proofs.Decided.{clash, and-true, same-or-other}
 use Rattle.cut.specs.Changes.{Store, Logged, covers, byteOf, carryOut, after, only, Earlier, here, there}
-
--- Booleans
-
--- an answer is not both
-pub clash {ℓ} : {A : Type ℓ} (b : Bool) → b ≡ true → b ≡ false → A
-clash b t f = absurd (true≢false (sym t ∙ f))
-
-pub and-left : (a b : Bool) → (a && b) ≡ true → a ≡ true
-and-left true b e = refl
-and-left false b e = e
-
-pub and-right : (a b : Bool) → (a && b) ≡ true → b ≡ true
-and-right true b e = e
-and-right false b e = clash false e refl
-
-pub not-true : (a : Bool) → not a ≡ true → a ≡ false
-not-true true e = sym e
-not-true false e = refl
-
--- Numbers
-
-of-T : (a : Bool) → T a → a ≡ true
-of-T true t = refl
-of-T false t = absurd t
-
-pub eqb-true : (m n : ℕ) → eqb m n ≡ true → m ≡ n
-eqb-true m n e = eqb→eq m n (subst T (sym e) tt)
-
-pub eqb-same : (m n : ℕ) → m ≡ n → eqb m n ≡ true
-eqb-same m n e = subst (λ (k : ℕ). eqb m k ≡ true) e (of-T (eqb m m) (eqb-refl m))
-
-pub same-or-other : (m n : ℕ) → (m ≡ n) ⊎ (m ≢ n)
-same-or-other m n = by (eqb m n) refl
-  where
-    by : (v : Bool) → eqb m n ≡ v → (m ≡ n) ⊎ (m ≢ n)
-    by true e = inl (eqb-true m n e)
-    by false e = inr (λ p. clash (eqb m n) (eqb-same m n p) e)
 
 -- what holds of block b and of every other block holds of each block
 pub by-block : (P : ℕ → Type 0) (b : ℕ) → P b → ((d : ℕ) → d ≢ b → P d) → (d : ℕ) → P d
@@ -67,7 +32,7 @@ older-in (there e) = List·Memᴰ·tail (older-in e)
 -- a change covers places of its own block only
 pub covers-block : (c : Logged) (b i : ℕ) → covers c b i ≡ true → c .block ≡ b
 unfolding covers
-covers-block c b i h = sym (eqb-true b (c .block) (and-left (eqb b (c .block)) _ h))
+covers-block c b i h = sym (eqb-true b (c .block) (and-true (eqb b (c .block)) _ h .0))
 
 module _ (b i : ℕ) (c : Logged) where
   pub carry-inside : (s : Store) → covers c b i ≡ true → carryOut c s b i ≡ byteOf c i
@@ -82,14 +47,10 @@ module _ (b i : ℕ) (c : Logged) where
   unfolding carryOut
   carry-same s t h = rw h
 
--- a change that fails the test is not among those that pass it, and one that passes is
+-- a change that fails the test is not among those that pass it
 pub only-drops : (p : Logged → Bool) (c : Logged) (l : List Logged) → p c ≡ false → only p (c ∷ l) ≡ only p l
 unfolding only
 only-drops p c l e = rw e
-
-pub only-takes : (p : Logged → Bool) (c : Logged) (l : List Logged) → p c ≡ true → only p (c ∷ l) ≡ c ∷ only p l
-unfolding only
-only-takes p c l e = rw e
 
 -- Two tests at one place: what a log gives there hangs on the changes that cover the place, and on no other.
 
@@ -105,9 +66,9 @@ module _ (b i : ℕ) (p q : Logged → Bool) (s : Store) where
           → after (cond (p c) (c ∷ only p l) (only p l)) s b i ≡ after (cond (q c) (c ∷ only q l) (only q l)) s b i
       by true eu true er v e = rw (eu, er) (carry-same b i c _ _ below)
       by false eu false er v e = rw (eu, er) below
-      by true eu false er true e = clash (q c) (sym (h e) ∙ eu) er
+      by true eu false er true e = absurd (clash (sym (h e) ∙ eu) er)
       by true eu false er false e = rw (eu, er) (carry-outside b i c _ e ∙ below)
-      by false eu true er true e = clash (p c) (h e ∙ er) eu
+      by false eu true er true e = absurd (clash (h e ∙ er) eu)
       by false eu true er false e = rw (eu, er) (below ∙ sym (carry-outside b i c _ e))
 
   same-at : (l : List Logged)

@@ -8,7 +8,8 @@ use mathlib.Core.Logic.{_⊎_, inl, inr}
 use Rattle.cut.specs.Changes.{Store, Logged, after, only, Earlier}
 use Rattle.cut.specs.World.{World, Stage, waiting, inFlight, committed, Must}
 use Rattle.cut.specs.Cut.{reached}
-use Rattle.cut.proofs.Facts.{clash, same-on-block}
+use Rattle.ground.proofs.Decided.{clash}
+use Rattle.cut.proofs.Facts.{same-on-block}
 use Rattle.cut.proofs.TakeBack.{Kept}
 
 -- The opening with those changes carried out that are on the store when no write in flight is there (false), or when
@@ -48,15 +49,15 @@ pub record Invariant (opening : Store) (w : World) : Type 0 where
 
 pub waits-not-done {ℓ} : {A : Type ℓ} {r : Stage} → r ≡ waiting → r ≡ committed → A
 unfolding reached
-waits-not-done {r} a d = clash (reached true r) (ap (reached true) d) (ap (reached true) a)
+waits-not-done {r} a d = absurd (clash (ap (reached true) d) (ap (reached true) a))
 
 pub waits-not-off {ℓ} : {A : Type ℓ} {r : Stage} → r ≡ waiting → r ≡ inFlight → A
 unfolding reached
-waits-not-off {r} a d = clash (reached true r) (ap (reached true) d) (ap (reached true) a)
+waits-not-off {r} a d = absurd (clash (ap (reached true) d) (ap (reached true) a))
 
 pub off-not-done {ℓ} : {A : Type ℓ} {r : Stage} → r ≡ inFlight → r ≡ committed → A
 unfolding reached
-off-not-done {r} a d = clash (reached false r) (ap (reached false) d) (ap (reached false) a)
+off-not-done {r} a d = absurd (clash (ap (reached false) d) (ap (reached false) a))
 
 -- What a step says of the tie holds y, whether y waits or is in flight with x.
 

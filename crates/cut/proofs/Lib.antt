@@ -7,4 +7,3 @@ pub mod Accept
 pub mod Send
 pub mod Turn
 pub mod Core
-pub mod Places

@@ -8,7 +8,9 @@ use lib.Dec.{eqb}
 use Rattle.cut.specs.Changes.{Store, Logged, after, only, Earlier}
 use Rattle.cut.specs.World.{World, Stage, waiting, inFlight, committed, isWaiting, left, Must, SendStep}
 use Rattle.cut.specs.Cut.{reached}
-use Rattle.cut.proofs.Facts.{clash, and-left, and-right, not-true, eqb-true, eqb-same, by-block, newer-in, older-in, covers-block, same-on-block}
+use borrow.Author.Tests.{not-true, eq-eqb, eqb-true}
+use Rattle.ground.proofs.Decided.{clash, and-true}
+use Rattle.cut.proofs.Facts.{by-block, newer-in, older-in, covers-block, same-on-block}
 use Rattle.cut.proofs.TakeBack.{NoneOver, kept-fewer, take-gives-rest}
 use Rattle.cut.proofs.Invariant.{Held, done, waits, together, Invariant, carried, carried-same, held-waiting, held-together, waits-not-done, waits-not-off, off-not-done}
 use Rattle.cut.proofs.Order.{must-before}
@@ -16,22 +18,23 @@ use Rattle.cut.proofs.Order.{must-before}
 is-waiting : (r : Stage) → isWaiting r ≡ true → r ≡ waiting
 unfolding isWaiting
 is-waiting waiting e = refl
-is-waiting inFlight e = clash false e refl
-is-waiting committed e = clash false e refl
+is-waiting inFlight e = absurd (clash e refl)
+is-waiting committed e = absurd (clash e refl)
 
 -- a change that is left behind waits on the block and does not go, and the other way round
 left-is : (b : ℕ) (go : Logged → Bool) (w : World) (x : Logged) → left b go w x ≡ true → (x .block ≡ b) × (w .state x ≡ waiting) × (go x ≡ false)
 unfolding left
 left-is b go w x e =
-    let r = and-right (eqb (x .block) b) _ e in (
-      eqb-true (x .block) b (and-left _ (isWaiting (w .state x) && not (go x)) e),
-      is-waiting (w .state x) (and-left _ (not (go x)) r),
-      not-true (go x) (and-right (isWaiting (w .state x)) _ r),
+    let p = and-true (eqb (x .block) b) _ e in
+    let r = and-true (isWaiting (w .state x)) _ (p .1) in (
+      eqb-true (x .block) b (p .0),
+      is-waiting (w .state x) (r .0),
+      not-true (go x) (r .1),
     )
 
 is-left : (b : ℕ) (go : Logged → Bool) (w : World) (x : Logged) → x .block ≡ b → w .state x ≡ waiting → go x ≡ false → left b go w x ≡ true
 unfolding left isWaiting
-is-left b go w x s a g = rw (eqb-same (x .block) b s, a, g)
+is-left b go w x s a g = rw (eq-eqb (x .block) b s, a, g)
 
 module _ (b : ℕ) (go : Logged → Bool) (w w′ : World) (h : SendStep b go w w′) (opening : Store) (v : Invariant opening w) where
   -- the cases of a change of the log: it goes, or it is where it was
@@ -51,7 +54,7 @@ module _ (b : ℕ) (go : Logged → Bool) (w w′ : World) (h : SendStep b go w 
   off-held : (y x : Logged) → w′ .state y ≡ inFlight → y .block ≡ b → (w′ .state x ≡ committed) ⊎ w′ .tied y x
       → Fate x → (w .state x ≡ committed) ⊎ (go x ≡ true) → Held w′ y x
   off-held y x d s t (stays gx ax) (inl q) = done (ax ∙ q)
-  off-held y x d s t (stays gx ax) (inr q) = clash (go x) q gx
+  off-held y x d s t (stays gx ax) (inr q) = absurd (clash q gx)
   off-held y x d s t (off gx ax dx sx) (inl q) = waits-not-done ax q
   off-held y x d s t (off gx ax dx sx) (inr q) = held-together d dx (s ∙ sym sx) t
 
@@ -88,8 +91,8 @@ module _ (b : ℕ) (go : Logged → Bool) (w w′ : World) (h : SendStep b go w 
       at committed = refl
 
       by : Fate x → not (eqb (x .block) b && (isWaiting (w .state x) && not (go x))) ≡ reached true (w′ .state x)
-      by (off g a d q) = rw (eqb-same (x .block) b s, g, a, d)
-      by (stays g a) = rw (eqb-same (x .block) b s, g, a) (at (w .state x))
+      by (off g a d q) = rw (eq-eqb (x .block) b s, g, a, d)
+      by (stays g a) = rw (eq-eqb (x .block) b s, g, a) (at (w .state x))
 
   -- elsewhere nothing goes
   gone-there : (x : Logged) → List·Memᴰ x (w .log) → x .block ≢ b → reached true (w .state x) ≡ reached true (w′ .state x)
@@ -105,12 +108,12 @@ module _ (b : ℕ) (go : Logged → Bool) (w w′ : World) (h : SendStep b go w 
     where
       tie : w .state x ≡ waiting → go x ≡ false → (w .state x ≡ committed) ⊎ (go x ≡ true) → left b go w x ≡ false
       tie a g (inl q) = waits-not-done a q
-      tie a g (inr q) = clash (go x) q g
+      tie a g (inr q) = absurd (clash q g)
 
       under : w .state x ≡ waiting → go x ≡ false → Held w y x → (r : Bool) → go y ≡ r → left b go w x ≡ false
       under a g (done d) r er = waits-not-done a d
       under a g (together d q s t) r er = waits-not-off a q
-      under a g (waits d t) false er = clash (left b go w y) (is-left b go w y (covers-block y b i cy) d er) f
+      under a g (waits d t) false er = absurd (clash (is-left b go w y (covers-block y b i cy) d er) f)
       under a g (waits d t) true er = tie a g (h .goTied y x (newer-in e) (older-in e) er t)
 
       by : (r : Bool) → left b go w x ≡ r → left b go w x ≡ false

@@ -6,7 +6,8 @@ use mathlib.Core.Bool.{Bool, true, false, cond, not}
 use mathlib.Core.List.{List, [], _∷_, List·Memᴰ, List·Memᴰ·head, List·Memᴰ·tail}
 use Rattle.cut.specs.Changes.{Store, Logged, covers, after, only, Earlier, here, there}
 use Rattle.cut.specs.World.{putBack, takeBack}
-use Rattle.cut.proofs.Facts.{clash, carry-inside, carry-outside}
+use Rattle.ground.proofs.Decided.{clash}
+use Rattle.cut.proofs.Facts.{carry-inside, carry-outside}
 
 -- Where old bytes are kept for a change, they are what the changes accepted before it give. It goes by place in the
 -- log and not by change, since a log may have two equal changes.
@@ -49,7 +50,7 @@ module _ (b i : ℕ) (out : Logged → Bool) (undo : Logged → ℕ → ℕ) whe
       by : (v : Bool) → out c ≡ v → (r : Bool) → covers c b i ≡ r → cond v (putBack undo c s) s b i ≡ s b i
       by false e r er = refl
       by true e false er = back-outside c s er
-      by true e true er = clash (out c) e (h c (List·Memᴰ·head refl) er)
+      by true e true er = absurd (clash e (h c (List·Memᴰ·head refl) er))
 
   module _ (opening : Store) where
     -- taking back works on any store that holds at this place what the log gives

@@ -9,7 +9,9 @@ use lib.Dec.{eqb}
 use Rattle.cut.specs.Changes.{Store, Logged}
 use Rattle.cut.specs.World.{World, Stage, waiting, inFlight, committed, settled, fallen, KeepsUndo, KeepsTies, AddsNoAsk, LandStep, FailStep, RestStep}
 use Rattle.cut.specs.Cut.{reached}
-use Rattle.cut.proofs.Facts.{clash, eqb-true, eqb-same, by-block}
+use borrow.Author.Tests.{eq-eqb, eqb-true}
+use Rattle.ground.proofs.Decided.{clash}
+use Rattle.cut.proofs.Facts.{by-block}
 use Rattle.cut.proofs.TakeBack.{kept-fewer}
 use Rattle.cut.proofs.Invariant.{Invariant, carried, carried-same}
 use Rattle.cut.proofs.Order.{Moves, ordered-still}
@@ -47,7 +49,7 @@ module _ (b : ℕ) (turn : Stage → Stage) (w w′ : World) (h : Turned b turn 
         where
           by : (v : Bool) → eqb (x .block) b ≡ v → w′ .state x ≡ cond v (turn (w .state x)) (w .state x)
           by true e = h .its x m (eqb-true (x .block) b e)
-          by false e = h .other x m (λ s. clash (eqb (x .block) b) (eqb-same (x .block) b s) e)
+          by false e = h .other x m (λ s. clash (eq-eqb (x .block) b s) e)
 
   -- the bytes of the block, when its changes are as far after the turn as before
   carried-here : (new new′ : Bool) → ((r : Stage) → reached new r ≡ reached new′ (turn r)) → (i : ℕ)

@@ -9,7 +9,7 @@ use mathlib.Core.Logic.{_≢_, _⊎_, inl, inr}
 use Rattle.rules.specs.Create.{isIn}
 use Rattle.cut.specs.Changes as cut
 use Rattle.cut.specs.Changes.{Logged}
-use Rattle.cut.proofs.Facts.{same-or-other}
+use Rattle.ground.proofs.Decided.{same-or-other}
 use Rattle.demands.specs.History.{Accepted}
 use Rattle.demands.specs.Demand3.{Earlier}
 

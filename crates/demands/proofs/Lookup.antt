@@ -12,7 +12,7 @@ use Rattle.ground.proofs.Decided.{clash, and-true, true-and}
 use Rattle.rules.specs.declared.Slot.{Slot}
 use Rattle.rules.specs.Sizes.{slots}
 use Rattle.rules.specs.Table.{slotAt, used}
-use Rattle.cut.proofs.Facts.{same-or-other}
+use Rattle.ground.proofs.Decided.{same-or-other}
 
 abbrev orElse : Option ℕ → Bool → ℕ → Option ℕ
 orElse (some j) t k = some j

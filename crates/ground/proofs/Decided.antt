@@ -1,15 +1,24 @@
--- Laws of Bool and of Decides. Every test in the code promises an equation or a Decides, and a proof that goes on from such a test
+-- Laws of Bool, of equal numbers and of Decides. Every test in the code promises an equation or a Decides, and a proof that goes on from such a test
 -- takes its fact out, or makes the next answer, by these. Assumes nothing.
 use Prim.Native.Nat.{ℕ}
 use mathlib.Core.Path.{_≡_, refl, sym, subst}
-use mathlib.Core.Logic.{_⊎_, inl, inr}
+use mathlib.Core.Logic.{_≢_, _⊎_, inl, inr}
 use mathlib.Core.Bool.{Bool, true, false, _&&_, _||_, not}
 use native.Mathlib.Omega.{arith}
-use borrow.Author.Tests.{not-true, not-false}
+use borrow.Author.Tests.{not-true, not-false, eq-eqb, eqb-true}
+use lib.Dec.{eqb}
 use Rattle.ground.specs.Decides.{Decides}
 
 pub clash : {b : Bool} → b ≡ true → b ≡ false → ⊥
 clash p q = let z : _≡_ {A = ℕ} 0 1 = cc in omega arith
+
+-- two numbers are the same or not
+pub same-or-other : (m n : ℕ) → (m ≡ n) ⊎ (m ≢ n)
+same-or-other m n = by (eqb m n) refl
+  where
+    by : (v : Bool) → eqb m n ≡ v → (m ≡ n) ⊎ (m ≢ n)
+    by true e = inl (eqb-true m n e)
+    by false e = inr (λ p. clash (eq-eqb m n p) e)
 
 pub true-or-false : (b : Bool) → (b ≡ true) ⊎ (b ≡ false)
 true-or-false true = inl refl

@@ -25,7 +25,7 @@ use Rattle.rules.proofs.Granted.{CreatePassed}
 use Rattle.rules.proofs.StaysSound.{Like, like-self, turned-like, accepted-sound}
 use Rattle.cut.specs.Changes.{Logged}
 use Rattle.cut.specs.World.{waiting}
-use Rattle.cut.proofs.Facts.{same-or-other}
+use Rattle.ground.proofs.Decided.{same-or-other}
 use Rattle.demands.specs.History.{History, Accepted}
 use Rattle.demands.proofs.Log.{plain, number-below, of-log}
 use Rattle.demands.proofs.Lookup.{carries, slotOf, carries-used, carries-number, carries-of, at-slot, slot-carries, slot-same}

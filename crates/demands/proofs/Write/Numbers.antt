@@ -13,7 +13,7 @@ use Rattle.rules.specs.declared.Slot.{Slot}
 use Rattle.rules.specs.Sizes.{slots}
 use Rattle.rules.specs.Table.{slotAt}
 use Rattle.rules.specs.Create.{isIn}
-use Rattle.cut.proofs.Facts.{same-or-other}
+use Rattle.ground.proofs.Decided.{same-or-other}
 use Rattle.demands.specs.History.{numbersBelow}
 use Rattle.demands.specs.Demand3.{timesIn}
 
