@@ -1,4 +1,4 @@
--- The questions of a creation that are not already a definition of `rules`, and the enum that says hard or soft, or that no room is free.
+-- Between crates, need not be believed: the questions of a creation that are not already a definition of `rules`.
 use Prim.Native.Nat.{ℕ, _≤_, _<_}
 use mathlib.Core.Path.{_≡_}
 use mathlib.Core.Bool.{true}

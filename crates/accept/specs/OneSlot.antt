@@ -1,4 +1,5 @@
--- What the private tests answer of one slot. No public promise cites this file: those cite befores and WouldBeHard of `rules`.
+-- Inside this crate, need not be believed: what the private tests answer of one slot. No public promise cites this file: those cite befores and
+-- WouldBeHard of `rules`.
 use Prim.Native.Nat.{ℕ}
 use mathlib.Core.Path.{_≡_}
 use mathlib.Core.Bool.{Bool, true, _&&_, _||_}

@@ -1,4 +1,5 @@
--- What create and write know once their first refusals are judged. Private functions judge them; no public promise cites this file.
+-- Inside this crate, need not be believed: what create and write know once their first refusals are judged. Private functions judge them; no public
+-- promise cites this file.
 use Prim.Native.Nat.{ℕ, _+_, _<_}
 use mathlib.Core.Path.{_≡_}
 use mathlib.Core.List.{List}

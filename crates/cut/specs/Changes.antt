@@ -1,4 +1,4 @@
--- What a change is, and what a store holds once changes are carried out.
+-- Between crates, need not be believed by who reads `demands`: what a change is, and what a store holds once changes are carried out.
 -- The first of the three files that a reader of this crate's theorem has to believe (question four is said in words of its
 -- own, in `demands`). It speaks of bytes and of the order in which changes were accepted, and of no cache: whoever carries
 -- changes out singly, one after the other, gets `after`.

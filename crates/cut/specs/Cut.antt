@@ -1,4 +1,4 @@
--- What a power cut leaves, and what is promised of it.
+-- Between crates, need not be believed by who reads `demands`: what a power cut leaves, and what is promised of it.
 -- The third file that a reader of the theorem has to believe: `SafeAt` is the promise.
 use Prim.Native.Nat.{ℕ}
 use mathlib.Core.Path.{_≡_}

@@ -1,4 +1,4 @@
--- The radio as a power cut sees it, and what each call may do to it. There is no table in it.
+-- Between crates, need not be believed by who reads `demands`: the radio as a power cut sees it, and what each call may do to it. There is no table in it.
 -- The second file that a reader of the theorem has to believe. The step records are the only interface to a cache: a cache whose
 -- every call is one of these steps, or several, has the theorem of proofs/Core.antt. Steps speak of the changes of
 -- the log alone, and compare stores place by place, so that a world computed from lists can show them.

@@ -22,7 +22,7 @@ use Rattle.demands.specs.Demand3 as demand
 use Rattle.board.specs.Layout.{tableIn, IsTable, bytesOf}
 use Rattle.board.specs.Calls.{tableAfter, CreateEnd, createEnd, WriteEnd, writeEnd, AskCall}
 use Rattle.board.proofs.Kept.{Bytes, bytes-of, open-kept, create-kept, write-kept, complete-kept}
-use Rattle.firmware.specs.Run.{Run, meant, begun, afterCreate, afterWrite, afterComplete, Call, Happened, Later}
+use Rattle.firmware.specs.Run.{Run, meant, runBegun, runCreate, runWrite, runComplete, RunCall, HasRun, RunsOn}
 
 -- a history with another table
 abbrev withTable : History → Table → History
@@ -41,49 +41,49 @@ module _ (r : Run) where
   t = tableIn (r .bytes)
 
   create-means : (c : Change) (o : Creation) → Creates t (r .image) (r .undo) c o → (createNumber (o .answer) ≡ 0 → tableIn (bytesOf (o .table)) ≡ o .table)
-      → meant (afterCreate r c (createEnd (r .bytes) o)) ≡ history.afterCreate (meant r) c o
+      → meant (runCreate r c (createEnd (r .bytes) o)) ≡ history.afterCreate (meant r) c o
   unfolding history.afterCreate
   create-means c o p kept = by (ℕ-discrete (createNumber (o .answer)) 0)
     where
       refused : (k : ℕ) → (k ≡ 0 → ⊥)
-          → let x = createRefused t (r .image) (r .undo) k in meant (afterCreate r c (createEnd (r .bytes) x)) ≡ history.afterCreate (meant r) c x
+          → let x = createRefused t (r .image) (r .undo) k in meant (runCreate r c (createEnd (r .bytes) x)) ≡ history.afterCreate (meant r) c x
       refused k d = rw (ne-eqb k 0 d)
 
-      by : Dec (createNumber (o .answer) ≡ 0) → meant (afterCreate r c (createEnd (r .bytes) o)) ≡ history.afterCreate (meant r) c o
+      by : Dec (createNumber (o .answer) ≡ 0) → meant (runCreate r c (createEnd (r .bytes) o)) ≡ history.afterCreate (meant r) c o
       by (yes z) =
           let a = p .grant z in
           let granted = createGranted t (r .image) (r .undo) c (a .slot) (a .hold) in
           subst
-          (λ (x : Creation). tableIn (bytesOf (x .table)) ≡ x .table → meant (afterCreate r c (createEnd (r .bytes) x)) ≡ history.afterCreate (meant r) c x)
+          (λ (x : Creation). tableIn (bytesOf (x .table)) ≡ x .table → meant (runCreate r c (createEnd (r .bytes) x)) ≡ history.afterCreate (meant r) c x)
           (sym (a .whole)) (λ e. ap (withTable (history.afterCreate (meant r) c granted)) e) (kept z)
       by (no d) =
-          subst (λ (x : Creation). meant (afterCreate r c (createEnd (r .bytes) x)) ≡ history.afterCreate (meant r) c x) (sym (p .refusal d)) (refused _ d)
+          subst (λ (x : Creation). meant (runCreate r c (createEnd (r .bytes) x)) ≡ history.afterCreate (meant r) c x) (sym (p .refusal d)) (refused _ d)
 
   write-means : (b : ℕ) (lent : List ℕ) (o : Writing) → Writes t (r .image) (r .undo) lent b o
       → (writeNumber (o .answer) ≡ 0 → tableIn (bytesOf (o .table)) ≡ o .table)
-      → meant (afterWrite r b (writeEnd (r .bytes) o)) ≡ history.afterWrite (meant r) b o
+      → meant (runWrite r b (writeEnd (r .bytes) o)) ≡ history.afterWrite (meant r) b o
   unfolding history.afterWrite
   write-means b lent o p kept = by (ℕ-discrete (writeNumber (o .answer)) 0)
     where
       refused : (k : ℕ) → (k ≡ 0 → ⊥)
-          → let x = writeRefused t (r .image) (r .undo) lent k in meant (afterWrite r b (writeEnd (r .bytes) x)) ≡ history.afterWrite (meant r) b x
+          → let x = writeRefused t (r .image) (r .undo) lent k in meant (runWrite r b (writeEnd (r .bytes) x)) ≡ history.afterWrite (meant r) b x
       refused k d = rw (ne-eqb k 0 d)
 
-      by : Dec (writeNumber (o .answer) ≡ 0) → meant (afterWrite r b (writeEnd (r .bytes) o)) ≡ history.afterWrite (meant r) b o
+      by : Dec (writeNumber (o .answer) ≡ 0) → meant (runWrite r b (writeEnd (r .bytes) o)) ≡ history.afterWrite (meant r) b o
       by (yes z) =
-          subst (λ (x : Writing). tableIn (bytesOf (x .table)) ≡ x .table → meant (afterWrite r b (writeEnd (r .bytes) x)) ≡ history.afterWrite (meant r) b x)
+          subst (λ (x : Writing). tableIn (bytesOf (x .table)) ≡ x .table → meant (runWrite r b (writeEnd (r .bytes) x)) ≡ history.afterWrite (meant r) b x)
           (sym (p .grant z .whole)) (λ e. ap (withTable (history.afterWrite (meant r) b (writeGranted t (r .image) (r .undo) b (sentSet (o .answer))))) e)
           (kept z)
       by (no d) =
-          subst (λ (x : Writing). meant (afterWrite r b (writeEnd (r .bytes) x)) ≡ history.afterWrite (meant r) b x) (sym (p .refusal d)) (refused _ d)
+          subst (λ (x : Writing). meant (runWrite r b (writeEnd (r .bytes) x)) ≡ history.afterWrite (meant r) b x) (sym (p .refusal d)) (refused _ d)
 
   complete-means : (b : ℕ) (o : Completion) → Completes t b o → (plainNumber (o .answer) ≡ 0 → tableIn (bytesOf (o .table)) ≡ o .table)
-      → meant (afterComplete r b (plainNumber (o .answer)) (tableAfter (plainNumber (o .answer)) (r .bytes) (o .table))) ≡ history.afterComplete (meant r) b o
+      → meant (runComplete r b (plainNumber (o .answer)) (tableAfter (plainNumber (o .answer)) (r .bytes) (o .table))) ≡ history.afterComplete (meant r) b o
   unfolding history.afterComplete
   complete-means b o p kept = by (ℕ-discrete (plainNumber (o .answer)) 0)
     where
       after : Completion → Run
-      after x = afterComplete r b (plainNumber (x .answer)) (tableAfter (plainNumber (x .answer)) (r .bytes) (x .table))
+      after x = runComplete r b (plainNumber (x .answer)) (tableAfter (plainNumber (x .answer)) (r .bytes) (x .table))
 
       refused : (k : ℕ) → (k ≡ 0 → ⊥) → meant (after (completeRefused t k)) ≡ history.afterComplete (meant r) b (completeRefused t k)
       refused k d = rw (ne-eqb k 0 d)
@@ -95,7 +95,7 @@ module _ (r : Run) where
       by (no d) = subst (λ (x : Completion). meant (after x) ≡ history.afterComplete (meant r) b x) (sym (p .refusal d)) (refused _ d)
 
 begun-means : (o : Opening) (store undo : List ℕ) → tableIn (bytesOf (o .table)) ≡ o .table
-    → meant (begun (bytesOf (o .table)) store undo) ≡ history.begun o store undo
+    → meant (runBegun (bytesOf (o .table)) store undo) ≡ history.begun o store undo
 unfolding history.begun
 begun-means o store undo kept = ap (withTable (history.begun o store undo)) kept
 
@@ -124,56 +124,56 @@ record Step (r r′ : Run) : Type 0 where
   after : Good r′
   call : history.Call (meant r) (meant r′)
 
-step : {r r′ : Run} → Good r → Call r r′ → Step r r′
-step {r} g (Call.creates c e p) =
+step : {r r′ : Run} → Good r → RunCall r r′ → Step r r′
+step {r} g (RunCall.creates c e p) =
     let q = p .is-table (g .is-table) in
     let o = q .0 in
     let kept = create-kept (r .bytes) (g .in-bytes) (r .image) (r .undo) c o (q .1) in
-    subst (λ (x : CreateEnd). Step r (afterCreate r c x)) (sym (q .2)) (record {
+    subst (λ (x : CreateEnd). Step r (runCreate r c x)) (sym (q .2)) (record {
       after = record {
         is-table = after-table (createNumber (o .answer)) (r .bytes) (o .table) (g .is-table) (λ z. kept z .1);
         in-bytes = after-bytes (createNumber (o .answer)) (r .bytes) (o .table) (g .in-bytes);
       };
       call = subst (history.Call (meant r)) (sym (create-means r c o (q .1) (λ z. kept z .0))) (history.Call.creates c o (q .1));
     })
-step {r} g (Call.writes b lent e p) =
+step {r} g (RunCall.writes b lent e p) =
     let q = p .is-table (g .is-table) in
     let o = q .0 in
     let kept = write-kept (r .bytes) (g .in-bytes) (r .image) (r .undo) lent b o (q .1) in
-    subst (λ (x : WriteEnd). Step r (afterWrite r b x)) (sym (q .2)) (record {
+    subst (λ (x : WriteEnd). Step r (runWrite r b x)) (sym (q .2)) (record {
       after = record {
         is-table = after-table (writeNumber (o .answer)) (r .bytes) (o .table) (g .is-table) (λ z. kept z .1);
         in-bytes = after-bytes (writeNumber (o .answer)) (r .bytes) (o .table) (g .in-bytes);
       };
       call = subst (history.Call (meant r)) (sym (write-means r b lent o (q .1) (λ z. kept z .0))) (history.Call.writes b lent o (q .1));
     })
-step {r} g (Call.completes b k after p) =
+step {r} g (RunCall.completes b k after p) =
     let q = p .is-table (g .is-table) in
     let o = q .0 in
     let kept = complete-kept (r .bytes) (g .in-bytes) b o (q .1) in
-    subst₂ (λ (x : ℕ) (y : List ℕ). Step r (afterComplete r b x y)) (sym (q .2)) (sym (q .3)) (record {
+    subst₂ (λ (x : ℕ) (y : List ℕ). Step r (runComplete r b x y)) (sym (q .2)) (sym (q .3)) (record {
       after = record {
         is-table = after-table (plainNumber (o .answer)) (r .bytes) (o .table) (g .is-table) (λ z. kept z .1);
         in-bytes = after-bytes (plainNumber (o .answer)) (r .bytes) (o .table) (g .in-bytes);
       };
       call = subst (history.Call (meant r)) (sym (complete-means r b o (q .1) (λ z. kept z .0))) (history.Call.completes b o (q .1));
     })
-step g (Call.asks n k s p) = let q = p .is-table (g .is-table) in record { after = g; call = history.Call.asks n (q .0) (q .1) }
-step g (Call.counts b k n p) = let q = p .is-table (g .is-table) in record { after = g; call = history.Call.counts b (q .0) (q .1) }
+step g (RunCall.asks n k s p) = let q = p .is-table (g .is-table) in record { after = g; call = history.Call.asks n (q .0) (q .1) }
+step g (RunCall.counts b k n p) = let q = p .is-table (g .is-table) in record { after = g; call = history.Call.counts b (q .0) (q .1) }
 
 -- a run is a history
-means : {r : Run} → Happened r → Good r × history.Happened (meant r)
-means (Happened.opens memory store undo first k after l p s) =
+means : {r : Run} → HasRun r → Good r × history.Happened (meant r)
+means (HasRun.opens memory store undo first k after l p s) =
     let q = p .sized l in
     let o = q .0 in
     let kept = open-kept first o (q .1) in
-    subst (λ (x : List ℕ). Good (begun x store undo) × history.Happened (meant (begun x store undo))) (sym (q .3)) (
+    subst (λ (x : List ℕ). Good (runBegun x store undo) × history.Happened (meant (runBegun x store undo))) (sym (q .3)) (
       record { is-table = kept .1; in-bytes = bytes-of (o .table) },
       subst history.Happened (sym (begun-means o store undo (kept .0))) (history.Happened.opens first o store undo (q .1) s),
     )
-means (Happened.calls w c) = let g = means w in let s = step (g .0) c in (s .after, history.Happened.calls (g .1) (s .call))
+means (HasRun.calls w c) = let g = means w in let s = step (g .0) c in (s .after, history.Happened.calls (g .1) (s .call))
 
-pub run-is-history : {r : Run} → Happened r → history.Happened (meant r)
+pub run-is-history : {r : Run} → HasRun r → history.Happened (meant r)
 run-is-history w = means w .1
 
 -- in which ask's 3 is its word committed
@@ -183,13 +183,13 @@ committed-only ask.InFlight e = absurd (omega arith)
 committed-only ask.Committed e = refl
 committed-only (ask.Refused k) e = absurd (omega arith)
 
-pub called-committed : {r : Run} {n k : ℕ} → Happened r → AskCall (r .bytes) n k 3 → Asks (tableIn (r .bytes)) n ask.Committed
+pub called-committed : {r : Run} {n k : ℕ} → HasRun r → AskCall (r .bytes) n k 3 → Asks (tableIn (r .bytes)) n ask.Committed
 called-committed {r} {n} w p = let q = p .is-table (means w .0 .is-table) in subst (Asks (tableIn (r .bytes)) n) (committed-only (q .0) (q .3)) (q .1)
 
 -- and a later run a later history
-later : {r r′ : Run} → Good r → Later r r′ → Good r′ × demand.Later (meant r) (meant r′)
-later g Later.now = (g, demand.Later.now)
-later g (Later.then l c) = let w = later g l in let s = step (w .0) c in (s .after, demand.Later.then (w .1) (s .call))
+later : {r r′ : Run} → Good r → RunsOn r r′ → Good r′ × demand.Later (meant r) (meant r′)
+later g RunsOn.now = (g, demand.Later.now)
+later g (RunsOn.then l c) = let w = later g l in let s = step (w .0) c in (s .after, demand.Later.then (w .1) (s .call))
 
-pub later-is-later : {r r′ : Run} → Happened r → Later r r′ → demand.Later (meant r) (meant r′)
+pub later-is-later : {r r′ : Run} → HasRun r → RunsOn r r′ → demand.Later (meant r) (meant r′)
 later-is-later w l = later (means w .0) l .1

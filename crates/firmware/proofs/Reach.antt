@@ -19,7 +19,7 @@ use Rattle.rules.proofs.Cases.{passed}
 use Rattle.demands.proofs.QuestionSeven.{question-seven}
 use Rattle.board.specs.Layout.{tableBytes, slotStart, numberAt, tableIn, IsTable}
 use Rattle.board.specs.Calls.{noTableCases, tableAfter, holdNumber, CreateEnd, CreateCall, WriteEnd, WriteCall, CompleteCall}
-use Rattle.firmware.specs.Answers.{CreateReaches}
+use Rattle.firmware.specs.Answers.{CreateEndReaches}
 
 -- ---- bytes are a table or they are not
 
@@ -66,15 +66,15 @@ unwritten : (k : ℕ) (xs : List ℕ) (next : Table) → (k ≡ 0 → ⊥) → t
 unwritten k xs next d = rw (ne-eqb k 0 d)
 
 module _ (table image undo : List ℕ) (c : Change) (e : CreateEnd) (p : CreateCall table image undo c e) where
-  pub create-reaches : e .refusal ≡ 0 → CreateReaches image undo c e
+  pub create-reaches : e .refusal ≡ 0 → CreateEndReaches image undo c e
   create-reaches z = by (table? table)
     where
-      by : Dec (IsTable table) → CreateReaches image undo c e
+      by : Dec (IsTable table) → CreateEndReaches image undo c e
       by (yes t) =
           let q = p .is-table t in
           let o = q .0 in
           let reach = question-seven .creates (tableIn table) image undo c o (q .1) (sym (ap (λ (x : CreateEnd). x .refusal) (q .2)) ∙ z) in
-          subst (CreateReaches image undo c) (sym (q .2)) (record {
+          subst (CreateEndReaches image undo c) (sym (q .2)) (record {
             in-image = reach .in-image;
             hard = λ h. reach .hard (hold-hard (hardOrSoft (o .answer)) h);
             soft = λ r h. reach .soft r (hold-soft (hardOrSoft (o .answer)) r h);

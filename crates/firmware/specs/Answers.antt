@@ -10,27 +10,27 @@ use Rattle.demands.specs.History.{Accepted}
 use Rattle.demands.specs.Demand3.{storeAfterCut, hasLanded, CutSafe, NotesTrue}
 use Rattle.demands.specs.QuestionSeven.{SameBut, Holds}
 use Rattle.board.specs.Calls.{CreateEnd, CreateCall, WriteEnd, WriteCall, CompleteCall, AskCall}
-use Rattle.firmware.specs.Run.{Run, meant, Happened, Later}
+use Rattle.firmware.specs.Run.{Run, meant, HasRun, RunsOn}
 
 -- question four
 pub record FirmwareQuestionFour : Type 0 where
   -- after any run and any cut the store holds the landed changes, carried out singly in accepted order, and all that they asked to have before them
-  pub at-any-cut : (r : Run) → Happened r → (new : ℕ → Bool) → CutSafe (meant r) new
+  pub at-any-cut : (r : Run) → HasRun r → (new : ℕ → Bool) → CutSafe (meant r) new
   -- and the notes by which that is judged are true
-  pub by-true-notes : (r : Run) → Happened r → NotesTrue (meant r)
+  pub by-true-notes : (r : Run) → HasRun r → NotesTrue (meant r)
   -- a change whose number ask has answered with 3, committed, is on the store after every later cut
-  pub for-good : (r : Run) → Happened r → (a : Accepted) → List·Memᴰ a (r .accepted) → (refusal : ℕ) → AskCall (r .bytes) (a .number) refusal 3
-      → (r′ : Run) → Later r r′ → (new : ℕ → Bool) → List·Memᴰ a (r′ .accepted) × (hasLanded new (meant r′) a ≡ true)
+  pub for-good : (r : Run) → HasRun r → (a : Accepted) → List·Memᴰ a (r .accepted) → (refusal : ℕ) → AskCall (r .bytes) (a .number) refusal 3
+      → (r′ : Run) → RunsOn r r′ → (new : ℕ → Bool) → List·Memᴰ a (r′ .accepted) × (hasLanded new (meant r′) a ≡ true)
 
 -- a create that answers 0 changes no byte of the image outside the range it names, and of the undo area none but the first bytes of the one room it takes
-pub record CreateReaches (image undo : List ℕ) (c : Change) (e : CreateEnd) : Type 0 where
+pub record CreateEndReaches (image undo : List ℕ) (c : Change) (e : CreateEnd) : Type 0 where
   pub in-image : SameBut (place c) (length (c .bytes)) image (e .image)
   pub hard : e .hold ≡ 1 → e .undo ≡ undo
   pub soft : (r : ℕ) → e .hold ≡ 2 + r → SameBut (roomStart r) (length (c .bytes)) undo (e .undo)
 
 -- question seven, whatever the bytes of the table are
 pub record FirmwareQuestionSeven : Type 0 where
-  pub creates : (table image undo : List ℕ) (c : Change) (e : CreateEnd) → CreateCall table image undo c e → e .refusal ≡ 0 → CreateReaches image undo c e
+  pub creates : (table image undo : List ℕ) (c : Change) (e : CreateEnd) → CreateCall table image undo c e → e .refusal ≡ 0 → CreateEndReaches image undo c e
   -- write changes nothing lent but the table and the block handed out (complete, ask and count are lent no more than the table)
   pub writes : (table image undo handed : List ℕ) (b : ℕ) (e : WriteEnd) → WriteCall table image undo handed b e → (e .image ≡ image) × (e .undo ≡ undo)
   -- and a refusal nothing at all
@@ -41,5 +41,5 @@ pub record FirmwareQuestionSeven : Type 0 where
   pub complete-refused : (table : List ℕ) (b refusal : ℕ) (after : List ℕ) → CompleteCall table b refusal after → (refusal ≡ 0 → ⊥) → after ≡ table
   -- on the store, after any run and any cut: a place that no landed change names holds its opening byte, any other the byte of the last accepted
   -- landed change that names it
-  pub store : (r : Run) → Happened r → (new : ℕ → Bool) (p : ℕ) → p < imageBytes
+  pub store : (r : Run) → HasRun r → (new : ℕ → Bool) (p : ℕ) → p < imageBytes
       → Holds (hasLanded new (meant r)) (r .accepted) (r .opening) p (getD (storeAfterCut new (meant r)) p 0)

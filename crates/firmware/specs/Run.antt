@@ -36,11 +36,11 @@ meant r = record {
   landed = r .landed;
 }
 
-abbrev pub begun : List ℕ → List ℕ → List ℕ → Run
-begun bytes store undo = record { bytes = bytes; image = store; undo = undo; opening = store; accepted = []; inFlight = []; landed = [] }
+abbrev pub runBegun : List ℕ → List ℕ → List ℕ → Run
+runBegun bytes store undo = record { bytes = bytes; image = store; undo = undo; opening = store; accepted = []; inFlight = []; landed = [] }
 
-abbrev pub afterCreate : Run → Change → CreateEnd → Run
-afterCreate r c e = record {
+abbrev pub runCreate : Run → Change → CreateEnd → Run
+runCreate r c e = record {
   bytes = e .table;
   image = e .image;
   undo = e .undo;
@@ -50,8 +50,8 @@ afterCreate r c e = record {
   landed = r .landed;
 }
 
-abbrev pub afterWrite : Run → ℕ → WriteEnd → Run
-afterWrite r b e = record {
+abbrev pub runWrite : Run → ℕ → WriteEnd → Run
+runWrite r b e = record {
   bytes = e .table;
   image = e .image;
   undo = e .undo;
@@ -62,8 +62,8 @@ afterWrite r b e = record {
   landed = r .landed;
 }
 
-abbrev pub afterComplete : Run → ℕ → ℕ → List ℕ → Run
-afterComplete r b refusal after = record {
+abbrev pub runComplete : Run → ℕ → ℕ → List ℕ → Run
+runComplete r b refusal after = record {
   bytes = after;
   image = r .image;
   undo = r .undo;
@@ -74,20 +74,20 @@ afterComplete r b refusal after = record {
 }
 
 -- one function of the library, by its promise's own definition; ask and count leave everything as it is
-pub data Call (r : Run) : Run → Type 0 where
-  creates : (c : Change) (e : CreateEnd) → CreateCall (r .bytes) (r .image) (r .undo) c e → Call r (afterCreate r c e)
-  writes : (b : ℕ) (lent : List ℕ) (e : WriteEnd) → WriteCall (r .bytes) (r .image) (r .undo) lent b e → Call r (afterWrite r b e)
-  completes : (b refusal : ℕ) (after : List ℕ) → CompleteCall (r .bytes) b refusal after → Call r (afterComplete r b refusal after)
-  asks : (n refusal state : ℕ) → AskCall (r .bytes) n refusal state → Call r r
-  counts : (b refusal count : ℕ) → CountCall (r .bytes) b refusal count → Call r r
+pub data RunCall (r : Run) : Run → Type 0 where
+  creates : (c : Change) (e : CreateEnd) → CreateCall (r .bytes) (r .image) (r .undo) c e → RunCall r (runCreate r c e)
+  writes : (b : ℕ) (lent : List ℕ) (e : WriteEnd) → WriteCall (r .bytes) (r .image) (r .undo) lent b e → RunCall r (runWrite r b e)
+  completes : (b refusal : ℕ) (after : List ℕ) → CompleteCall (r .bytes) b refusal after → RunCall r (runComplete r b refusal after)
+  asks : (n refusal state : ℕ) → AskCall (r .bytes) n refusal state → RunCall r r
+  counts : (b refusal count : ℕ) → CountCall (r .bytes) b refusal count → RunCall r r
 
 -- a run that can be: 2,056 bytes of memory that hold anything, any first number, any store of 16,384 bytes, any undo area, and any calls
-pub data Happened : Run → Type 0 where
+pub data HasRun : Run → Type 0 where
   opens : (memory store undo : List ℕ) (first refusal : ℕ) (after : List ℕ) → length memory ≡ tableBytes → OpenCall memory first refusal after
-      → length store ≡ imageBytes → Happened (begun after store undo)
-  calls : {r r′ : Run} → Happened r → Call r r′ → Happened r′
+      → length store ≡ imageBytes → HasRun (runBegun after store undo)
+  calls : {r r′ : Run} → HasRun r → RunCall r r′ → HasRun r′
 
 -- the run r with any further calls
-pub data Later (r : Run) : Run → Type 0 where
-  now : Later r r
-  then : {r′ r″ : Run} → Later r r′ → Call r′ r″ → Later r r″
+pub data RunsOn (r : Run) : Run → Type 0 where
+  now : RunsOn r r
+  then : {r′ r″ : Run} → RunsOn r r′ → RunCall r′ r″ → RunsOn r r″

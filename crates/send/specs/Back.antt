@@ -1,4 +1,4 @@
--- What the private search under `hand_out` gives. No public promise cites this file: that of hand_out cites `handed`.
+-- Inside this crate, need not be believed: what the private search under `hand_out` gives. No public promise cites this file: that of hand_out cites `handed`.
 use Prim.Native.Nat.{ℕ, _≤_, _<_}
 use mathlib.Core.Path.{_≡_}
 use mathlib.Core.Bool.{true}

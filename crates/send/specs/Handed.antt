@@ -1,5 +1,5 @@
--- What `hand_out` gives, for any slots, any patches to be taken back and buffers of any size. Inner crates promise by it: for a block's patches left
--- behind, in a sound table and with buffers of their sizes, it is handedOut of `rules` (proofs/Handed.antt).
+-- Between crates, need not be believed: what `hand_out` gives, for any slots, any patches to be taken back and buffers of any size. For a block's
+-- patches left behind, in a sound table and with buffers of their sizes, it is handedOut of `rules` (proofs/Handed.antt).
 use Prim.Native.Nat.{ℕ}
 use mathlib.Core.Bool.{Bool, _&&_, not}
 use mathlib.Core.List.{List}

@@ -3,7 +3,7 @@
 ghost use Prim.Native.Nat.{_+_, _<_};
 ghost use mathlib.Core.Path.{_≡_};
 ghost use Rattle.spans.specs.Spans.{splice, part};
-ghost use Rattle.rules.specs.Sizes.{roomStart};
+ghost use Rattle.rules.specs.Sizes.{roomStart, slots};
 ghost use Rattle.rules.specs.Slots.{roomOf};
 ghost use Rattle.rules.specs.Write.{backDown};
 ghost use Rattle.masks.specs.Sets.{has};
@@ -20,7 +20,7 @@ use slots::words::room_of;
 // Slot i against the best so far (64: none yet): the higher number, if it is below `top`, and of
 // two with the same number the lower slot.
 fn better(numbers: &[u32; SLOTS], left: u64, top: u32, best: usize, i: usize) -> usize
-    requires { ⌜ (i < 64) × Best (now numbers) left top i best ⌝ }
+    requires { ⌜ (i < slots) × Best (now numbers) left top i best ⌝ }
     ensures { λ r. ⌜ Best (now (numbers .entry)) left top (i + 1) r ⌝ }
 {
     if !masks::has(left, i) {
@@ -38,7 +38,7 @@ fn better(numbers: &[u32; SLOTS], left: u64, top: u32, best: usize, i: usize) ->
 
 // Of the slots of `left`, the lowest with the highest number below `top`; 64 where there is none.
 fn highest(numbers: &[u32; SLOTS], left: u64, top: u32) -> usize
-    ensures { λ r. ⌜ Best (now (numbers .entry)) left top 64 r ⌝ }
+    ensures { λ r. ⌜ Best (now (numbers .entry)) left top slots r ⌝ }
 {
     let mut best = SLOTS;
     for i in 0..SLOTS {

@@ -1,4 +1,5 @@
--- What the private tests of `judge` decide, of one slot and of its number among others. No public promise cites this file: those cite Sound of `rules`.
+-- Inside this crate, need not be believed: what the private tests of `judge` decide, of one slot and of its number among others. No public promise cites
+-- this file: those cite Sound of `rules`.
 use Prim.Native.Nat.{ℕ, _+_, _/_, _%_, _≤_, _<_}
 use mathlib.Core.Path.{_≡_}
 use mathlib.Core.Bool.{Bool, true, false}

@@ -1,4 +1,4 @@
--- What the walks over the slots give, in the words of `rules`.
+-- Between crates, need not be believed: what the walks over the slots give, in the words of `rules`.
 use Prim.Native.Nat.{ℕ, _≤_, _<_}
 use mathlib.Core.Path.{_≡_}
 use mathlib.Core.Bool.{true, cond}
