@@ -1,5 +1,5 @@
 // The 64 slots as the calls read them: words on one slot, walks over all, the patches of a block,
-// and whether a table is sound. Nothing here changes a slot.
+// whether a table is sound; and one slot made from another.
 pub mod patches;
 pub mod slot;
 pub mod sound;
