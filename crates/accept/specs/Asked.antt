@@ -1,4 +1,5 @@
--- The questions of a creation that are not already a definition of `rules`, and the enum that says hard or soft, or that no room is free.
+-- The questions of a creation that are not already a definition of `rules`, and the enum that says hard or soft, or that no room is free. Inner crates
+-- promise by these.
 use Prim.Native.Nat.{ℕ, _≤_, _<_}
 use mathlib.Core.Path.{_≡_}
 use mathlib.Core.Bool.{true, false}

@@ -1,6 +1,6 @@
 -- The search for the largest set that may go (document 01, "Shortcuts seen on the bench"): the striking goes in rounds until a round strikes nothing.
 -- It is said of any slots, of any set to start from and of any set that counts as hard. From a block's waiting patches, with its hard ones, it ends at
--- the largest set that may go: that is a law, in proofs/Rounds.antt.
+-- the largest set that may go: that is a law, in proofs/Rounds.antt. Inner crates promise by these; write promises Largest.
 use Prim.Native.Nat.{ℕ, zero, suc}
 use mathlib.Core.Bool.{Bool, cond, _&&_, not}
 use mathlib.Core.List.{List}

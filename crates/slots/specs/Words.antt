@@ -1,4 +1,4 @@
--- What the walks over the slots give, in the words of `rules`.
+-- What the walks over the slots give, in the words of `rules`. Inner crates promise by these.
 use Prim.Native.Nat.{ℕ, _≤_, _<_}
 use mathlib.Core.Path.{_≡_}
 use mathlib.Core.Bool.{true, cond}
