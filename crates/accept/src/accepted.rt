@@ -1,9 +1,9 @@
 // The slots with a new patch in one of them; a hard creation turns the block's soft patches hard.
 ghost use mathlib.Core.Path.{_≡_};
+ghost use mathlib.Core.Bool.{true};
 ghost use Rattle.rules.specs.declared.Hold.the-variants.{Hard};
-ghost use Rattle.rules.specs.Slots.{withState};
 ghost use Rattle.rules.specs.Table.{slotAt, slotsBy};
-ghost use Rattle.rules.specs.Create.{turnedState, turned, acceptedSlots};
+ghost use Rattle.rules.specs.Create.{turnedState, turnedSlot, turned, acceptedSlots};
 use rules::Hold;
 use rules::Slot;
 use rules::State;
@@ -23,7 +23,7 @@ fn turned_state(u: State) -> State
 
 // A slot of the block as a hard creation leaves it.
 fn turned_slot(s: Slot) -> Slot
-    ensures { λ r. ⌜ r ≡ withState (turnedState (s .state)) s ⌝ }
+    ensures { λ r. ⌜ r ≡ turnedSlot true s ⌝ }
 {
     let u = s.state;
     with_state(s, turned_state(u))

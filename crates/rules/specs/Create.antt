@@ -72,8 +72,12 @@ turnedState state.Free = state.Free
 turnedState (state.Waiting h) = state.Waiting hold.Hard
 turnedState (state.InFlight k) = state.InFlight k
 
+-- a slot that is turned, or is not
+abbrev pub turnedSlot : Bool → Slot → Slot
+turnedSlot turns s = cond turns (withState (turnedState (s .state)) s) s
+
 abbrev pub turned : Hold → ℕ → Slot → Slot
-turned hold.Hard b s = cond (eqb (s .block) b) (withState (turnedState (s .state)) s) s
+turned hold.Hard b s = turnedSlot (eqb (s .block) b) s
 turned (hold.Soft r) b s = s
 
 -- the new patch: the number next, its block and range, waiting, with its befores

@@ -2,7 +2,7 @@
 use Prim.Native.Nat.{ℕ, _+_, _<_}
 use native.Mathlib.Omega.{arith}
 use mathlib.Core.Path.{_≡_, refl, sym, _∙_, ap, subst}
-use mathlib.Core.Bool.{Bool, true, false, cond}
+use mathlib.Core.Bool.{Bool, true, false}
 use mathlib.Core.List.{List, _∷_, map, List·Memᴰ}
 use mathlib.Core.Option.{Option, none, some}
 use mathlib.Core.Logic.{_≢_, _⊎_, inl, inr}
@@ -15,11 +15,11 @@ use Rattle.rules.specs.declared.State as rules
 use Rattle.rules.specs.declared.State.the-variants as state
 use Rattle.rules.specs.declared.Slot.{Slot}
 use Rattle.rules.specs.Sizes.{slots}
-use Rattle.rules.specs.Slots.{isUsed, withState}
+use Rattle.rules.specs.Slots.{isUsed}
 use Rattle.rules.specs.Table.{slotAt, used, Sound}
 use Rattle.rules.specs.Create as create
 use Rattle.masks.specs.Lowest.{Lowest}
-use Rattle.rules.specs.Create.{FreeSlot, HoldOf, patch, turned, turnedState, acceptedSlot, acceptedSlots, accepted, changed, kept}
+use Rattle.rules.specs.Create.{FreeSlot, HoldOf, patch, turned, turnedState, turnedSlot, acceptedSlot, acceptedSlots, accepted, changed, kept}
 use Rattle.rules.proofs.After.{accepted-at}
 use Rattle.rules.proofs.Granted.{CreatePassed}
 use Rattle.rules.proofs.StaysSound.{Like, like-self, turned-like, accepted-sound}
@@ -48,11 +48,11 @@ turned-stays hold.Hard b s = record { like = turned-like hold.Hard b s; word = w
     turned-word (state.Waiting h) = refl
     turned-word (state.InFlight k) = refl
 
-    word : (its : Bool) → stateWord (cond its (withState (turnedState (s .state)) s) s .state) ≡ stateWord (s .state)
+    word : (its : Bool) → stateWord (turnedSlot its s .state) ≡ stateWord (s .state)
     word true = turned-word (s .state)
     word false = refl
 
-    same : (its : Bool) → cond its (withState (turnedState (s .state)) s) s .befores ≡ s .befores
+    same : (its : Bool) → turnedSlot its s .befores ≡ s .befores
     same true = refl
     same false = refl
 

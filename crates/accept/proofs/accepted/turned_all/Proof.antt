@@ -1,14 +1,13 @@
 -- `accept::accepted::turned_all` meets its contract: a walk whose turn is turned, which leaves the slots of other blocks alone. Assumes nothing.
 use Prim.Native.Nat.{_≤_, _-_}
 use mathlib.Core.Path.{sym, ap, _∙_}
-use mathlib.Core.Bool.{Bool, cond}
+use mathlib.Core.Bool.{Bool}
 use native.Mathlib.Omega.{arith}
 use borrow.Author.Needs.{needs}
 use borrow.Author.Tests.{eq-eqb, ne-eqb}
 use Rattle.rules.specs.declared.Hold.the-variants as hold
-use Rattle.rules.specs.Slots.{withState}
 use Rattle.rules.specs.Table.{slotAt}
-use Rattle.rules.specs.Create.{turnedState, turned}
+use Rattle.rules.specs.Create.{turnedSlot, turned}
 use Rattle.slots.proofs.Walked.{Walked, walk-starts, walk-goes-on, walk-passes, walk-ends}
 use Rattle.accept.proofs.accepted.turned_all.Statement.{statement}
 use Rattle.accept.proofs.accepted.turned_all.Tie as tie
@@ -38,7 +37,7 @@ loop-again : tie.Need-loop-again Inv-loop μ-loop
 loop-again c =
     let at = c .before .before .before .before in
     let s = slotAt (at .loop .next) (at .loop .i) in
-    (omega arith, walk-passes (at .loop .inv .1) (ap (λ (here : Bool). cond here (withState (turnedState (s .state)) s) s) (ne-eqb _ _ (c .if1 .taken))))
+    (omega arith, walk-passes (at .loop .inv .1) (ap (λ (here : Bool). turnedSlot here s) (ne-eqb _ _ (c .if1 .taken))))
 
 turned-slot-requires : tie.Need-turned-slot-requires Inv-loop μ-loop
 turned-slot-requires c κs = search needs
@@ -62,7 +61,7 @@ loop-again-2 c =
     let s = slotAt (at .loop .next) (at .loop .i) in (
       omega arith,
       walk-goes-on (at .loop .inv .1) (test .before .before .before .loop-test .taken)
-          (c .turned-slot .ensures ∙ sym (ap (λ (here : Bool). cond here (withState (turnedState (s .state)) s) s) (eq-eqb _ _ (test .if1 .left)))),
+          (c .turned-slot .ensures ∙ sym (ap (λ (here : Bool). turnedSlot here s) (eq-eqb _ _ (test .if1 .left)))),
     )
 
 returns : tie.Need-returns Inv-loop μ-loop
