@@ -14,18 +14,17 @@ use Rattle.rules.specs.declared.CountAnswer.{CountAnswer}
 use Rattle.rules.specs.declared.CreateAnswer.{CreateAnswer}
 use Rattle.rules.specs.declared.CreateAnswer.the-variants as create
 use Rattle.rules.specs.declared.Hold.{Hold}
-use Rattle.rules.specs.declared.Hold.the-variants as hold
 use Rattle.rules.specs.declared.WriteAnswer.{WriteAnswer}
 use Rattle.rules.specs.declared.WriteAnswer.the-variants as write
 use Rattle.rules.specs.Table.{Table}
 use Rattle.rules.specs.Create.{Change, HoldOf}
 use Rattle.rules.specs.Ask.{askWord}
 use Rattle.rules.specs.Refusals.{First, WrongSize}
-use Rattle.rules.specs.Calls.{plainNumber, Opening, Opens, createNumber, patchNumber, hardOrSoft, Creation, Accepts, Creates, writeNumber, sentSet, Writing}
-use Rattle.rules.specs.Calls.{Writes, Completion, Completes, askNumber, Asks, countNumber, counted, Counts}
+use Rattle.rules.specs.Calls.{plainNumber, Opening, Opens, createNumber, Creation, Accepts, Creates, writeNumber, Writing, Writes}
+use Rattle.rules.specs.Calls.{Completion, Completes, askNumber, Asks, countNumber, counted, Counts}
 use Rattle.board.specs.Layout.{tableBytes, IsTable, tableIn, bytesOf}
-use Rattle.board.specs.Calls.{tableAfter, noTableCases, OpenCall, holdNumber, CreateEnd, createNone, CreateCall, WriteEnd, writeNone, WriteCall}
-use Rattle.board.specs.Calls.{CompleteCall, AskCall, CountCall}
+use Rattle.board.specs.Calls.{tableAfter, noTableCases, OpenCall, holdNumber, CreateEnd, createEnd, createNone, CreateCall}
+use Rattle.board.specs.Calls.{WriteEnd, writeEnd, writeNone, WriteCall, CompleteCall, AskCall, CountCall}
 
 -- ---- open
 
@@ -111,29 +110,16 @@ hold-fits {t} {image} {undo} {c} {o} {n} {h} made p = by (g .hold) (g .hard-or-s
     by x (HoldOf.soft w l) e = subst (λ (y : Hold). holdNumber (some y) < 4294967296) e (omega (arith, l .within))
 
 module _ {table image undo : List ℕ} {c : Change} {t : Table} (o : Creation) (i : IsTable table) (e : t ≡ tableIn table) (h : Creates t image undo c o) where
-  create-end : (a : CreateAnswer) → o .answer ≡ a → (s : CreateEnd)
-      → s ≡ record {
-        refusal = createNumber a;
-        number = patchNumber a;
-        hold = holdNumber (hardOrSoft a);
-        table = tableAfter (createNumber a) table (o .table);
-        image = o .image;
-        undo = o .undo;
-      }
-      → CreateCall table image undo c s
+  -- the creation, its answer written out
+  abbrev created-with : CreateAnswer → Creation
+  created-with a = record { answer = a; table = o .table; image = o .image; undo = o .undo }
+
+  create-end : (a : CreateAnswer) → o .answer ≡ a → (s : CreateEnd) → s ≡ createEnd table (created-with a) → CreateCall table image undo c s
   create-end a p s q = record {
     is-table = λ d. (
       o,
       subst (λ (x : Table). Creates x image undo c o) e h,
-      subst
-          (λ (y : CreateAnswer). s ≡ record {
-            refusal = createNumber y;
-            number = patchNumber y;
-            hold = holdNumber (hardOrSoft y);
-            table = tableAfter (createNumber y) table (o .table);
-            image = o .image;
-            undo = o .undo;
-          }) (sym p) q,
+      subst (λ (y : CreateAnswer). s ≡ createEnd table (created-with y)) (sym p) q,
     );
     no-table = λ d. absurd (d i);
   }
@@ -163,29 +149,16 @@ write-none table image undo handed b k d f = record { is-table = λ i. absurd (d
 
 module _ {table image undo handed : List ℕ} {b : ℕ} {t : Table} (o : Writing) (i : IsTable table) (e : t ≡ tableIn table)
     (h : Writes t image undo handed b o) where
-  write-end : (a : WriteAnswer) → o .answer ≡ a → (s : WriteEnd)
-      → s ≡ record {
-        refusal = writeNumber a;
-        set = sentSet a;
-        table = tableAfter (writeNumber a) table (o .table);
-        image = o .image;
-        undo = o .undo;
-        handed = o .block;
-      }
-      → WriteCall table image undo handed b s
+  -- the writing, its answer written out
+  abbrev written-with : WriteAnswer → Writing
+  written-with a = record { answer = a; table = o .table; image = o .image; undo = o .undo; block = o .block }
+
+  write-end : (a : WriteAnswer) → o .answer ≡ a → (s : WriteEnd) → s ≡ writeEnd table (written-with a) → WriteCall table image undo handed b s
   write-end a p s q = record {
     is-table = λ d. (
       o,
       subst (λ (x : Table). Writes x image undo handed b o) e h,
-      subst
-          (λ (y : WriteAnswer). s ≡ record {
-            refusal = writeNumber y;
-            set = sentSet y;
-            table = tableAfter (writeNumber y) table (o .table);
-            image = o .image;
-            undo = o .undo;
-            handed = o .block;
-          }) (sym p) q,
+      subst (λ (y : WriteAnswer). s ≡ writeEnd table (written-with y)) (sym p) q,
     );
     no-table = λ d. absurd (d i);
   }

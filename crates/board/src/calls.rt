@@ -3,6 +3,7 @@
 ghost use Prim.Native.Nat.{_<_};
 ghost use mathlib.Core.Path.{_≡_};
 ghost use mathlib.Core.Option.{some};
+ghost use Rattle.cache.specs.Seen.{changeOf};
 ghost use Rattle.board.specs.Calls.{OpenCall, CreateCall, WriteCall, CompleteCall, AskCall, CountCall, holdNumber};
 use crate::from_bytes::is_table;
 use crate::from_bytes::table_in;
@@ -61,7 +62,7 @@ pub extern "C" fn board_create(
     hold: &mut u32,
 ) -> u32
     ensures { λ r. ⌜ CreateCall (now (table .entry)) (now (image .entry)) (now (undo .entry))
-        (record { block = block; offset = offset; bytes = now (bytes .entry); named = now (named .entry) })
+        (changeOf block offset (now (bytes .entry)) (now (named .entry)))
         (record {
           refusal = r;
           number = now (number .exit);

@@ -20,42 +20,43 @@ use Rattle.rules.specs.Calls.{Creates, createRefused, createGranted}
 use Rattle.rules.proofs.Granted.{CreatePassed, issued-holds}
 use Rattle.rules.proofs.Cases.{holds, passes, none-holds}
 use Rattle.rules.proofs.Outcomes.{refuses, grants}
-use Rattle.cache.specs.Judged.{Judged, keptAt}
+use Rattle.cache.specs.Judged.{CreateJudged, keptAt}
 use Rattle.cache.proofs.Sent.{judged}
 
 module _ (t : Table) (image undo : List ℕ) (c : Change) where
-  abbrev Create-judged : ℕ → Type 0
-  Create-judged = Judged (createCases t image undo c) (CreatePassed t image undo c)
-
-  pub create-wrong-size : (WrongSize imageBytes image ⊎ WrongSize undoBytes undo) → Create-judged 1
+  pub create-wrong-size : (WrongSize imageBytes image ⊎ WrongSize undoBytes undo) → CreateJudged t image undo c 1
   create-wrong-size w = judged 1 (λ e. omega arith) (holds w)
 
-  module _ (i : length image ≡ imageBytes) (u : length undo ≡ undoBytes) where
-    sizes : (WrongSize imageBytes image ⊎ WrongSize undoBytes undo) → ⊥
-    sizes = ⊎-elim (λ n. n i) (λ n. n u)
+  -- the lent buffers are of their sizes
+  pub record CreateSized : Type 0 where
+    pub image-whole : length image ≡ imageBytes
+    pub undo-whole : length undo ≡ undoBytes
 
-    pub create-unsound : (Sound t → ⊥) → Create-judged 2
+  module _ (w : CreateSized) where
+    sizes : (WrongSize imageBytes image ⊎ WrongSize undoBytes undo) → ⊥
+    sizes = ⊎-elim (λ n. n (w .image-whole)) (λ n. n (w .undo-whole))
+
+    pub create-unsound : (Sound t → ⊥) → CreateJudged t image undo c 2
     create-unsound n = judged 2 (λ e. omega arith) (passes sizes (holds n))
 
     module _ (s : Sound t) where
-      pub create-no-block : blocks ≤ c .block → Create-judged 3
+      pub create-no-block : blocks ≤ c .block → CreateJudged t image undo c 3
       create-no-block l = judged 3 (λ e. omega arith) (passes sizes (passes (λ n. n s) (holds l)))
 
       module _ (b : c .block < blocks) where
-        pub create-wrong-length : WrongLength c → Create-judged 4
+        pub create-wrong-length : WrongLength c → CreateJudged t image undo c 4
         create-wrong-length w = judged 4 (λ e. omega arith) (passes sizes (passes (λ n. n s) (passes (λ m. omega arith) (holds w))))
 
         module _ (least : length (c .bytes) ≡ 0 → ⊥) (most : length (c .bytes) ≤ mostBytes) where
           lengths : WrongLength c → ⊥
           lengths = ⊎-elim least (λ l. omega arith)
 
-          pub create-past-end : blockBytes < c .offset + length (c .bytes) → Create-judged 5
+          pub create-past-end : blockBytes < c .offset + length (c .bytes) → CreateJudged t image undo c 5
           create-past-end l = judged 5 (λ e. omega arith) (passes sizes (passes (λ n. n s) (passes (λ m. omega arith) (passes lengths (holds l)))))
 
   -- none of 1 to 5 holds
   pub record Past5 : Type 0 where
-    pub image-whole : length image ≡ imageBytes
-    pub undo-whole : length undo ≡ undoBytes
+    pub sized : CreateSized
     pub sound : Sound t
     pub is-block : c .block < blocks
     pub least : length (c .bytes) ≡ 0 → ⊥
@@ -67,27 +68,27 @@ module _ (t : Table) (image undo : List ℕ) (c : Change) where
         → First (case 1 (WrongSize imageBytes image ⊎ WrongSize undoBytes undo) ∷ case 2 (Unsound t) ∷ case 3 (NoBlock (c .block)) ∷ case 4
         (WrongLength c) ∷ case 5 (PastEnd c) ∷ rest) k
     past5 f =
-        passes (sizes (p .image-whole) (p .undo-whole))
+        passes (sizes (p .sized))
         (passes (λ n. n (p .sound))
         (passes (λ m. omega (arith, p .is-block)) (passes (⊎-elim (p .least) (λ l. omega (arith, p .most))) (passes (λ m. omega (arith, p .ends)) f))))
 
-    pub create-many-named : mostNamed < length (c .named) → Create-judged 6
+    pub create-many-named : mostNamed < length (c .named) → CreateJudged t image undo c 6
     create-many-named l = judged 6 (λ e. omega arith) (past5 (holds l))
 
     module _ (few : length (c .named) ≤ mostNamed) where
-      pub create-unissued : NamesUnissued t c → Create-judged 7
+      pub create-unissued : NamesUnissued t c → CreateJudged t image undo c 7
       create-unissued n = judged 7 (λ e. omega arith) (past5 (passes (λ m. omega arith) (holds n)))
 
       module _ (issued : NamesUnissued t c → ⊥) where
-        pub create-no-number : t .next ≡ lastNumber + 1 → Create-judged 8
+        pub create-no-number : t .next ≡ lastNumber + 1 → CreateJudged t image undo c 8
         create-no-number n = judged 8 (λ e. omega arith) (past5 (passes (λ m. omega arith) (passes issued (holds n))))
 
-        pub create-ready : (t .next ≡ lastNumber + 1 → ⊥) → Create-judged 0
+        pub create-ready : (t .next ≡ lastNumber + 1 → ⊥) → CreateJudged t image undo c 0
         create-ready n = record {
           refused = λ d. absurd (d refl);
           ready = λ z. record {
-            image-whole = p .image-whole;
-            undo-whole = p .undo-whole;
+            image-whole = p .sized .image-whole;
+            undo-whole = p .sized .undo-whole;
             sound = p .sound;
             is-block = p .is-block;
             len-least = omega (arith, p .least);
@@ -99,7 +100,7 @@ module _ (t : Table) (image undo : List ℕ) (c : Change) where
           };
         }
 
-  pub create-refused : (k : ℕ) → (k ≡ 0 → ⊥) → Create-judged k → Creates t image undo c (createRefused t image undo k)
+  pub create-refused : (k : ℕ) → (k ≡ 0 → ⊥) → CreateJudged t image undo c k → Creates t image undo c (createRefused t image undo k)
   create-refused k d j = refuses k (j .refused d) refl d
 
   module _ (r : CreatePassed t image undo c) where
@@ -108,8 +109,7 @@ module _ (t : Table) (image undo : List ℕ) (c : Change) where
     late f =
         past5
         (record {
-          image-whole = r .image-whole;
-          undo-whole = r .undo-whole;
+          sized = record { image-whole = r .image-whole; undo-whole = r .undo-whole };
           sound = r .sound;
           is-block = r .is-block;
           least = λ e. omega (arith, r .len-least);

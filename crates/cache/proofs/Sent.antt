@@ -14,7 +14,7 @@ use Rattle.rules.specs.Calls.{Writes, writeRefused, writeGranted, Completes, co
 use Rattle.rules.proofs.Largest.{largest-empty}
 use Rattle.rules.proofs.Cases.{holds, passes, none-holds}
 use Rattle.rules.proofs.Outcomes.{refuses, grants}
-use Rattle.cache.specs.Judged.{Judged, WriteReady}
+use Rattle.cache.specs.Judged.{Judged, WriteReady, WriteJudged}
 
 module _ (t : Table) (b : ℕ) where
   pub complete-unsound : (Sound t → ⊥) → Completes t b (completeRefused t 2)
@@ -34,36 +34,40 @@ pub judged : {cases : List Case} {Ready : Type 0} (k : ℕ) → (k ≡ 0 → ⊥
 judged k d f = record { refused = λ e. f; ready = λ z. absurd (d z) }
 
 module _ (t : Table) (image undo block : List ℕ) (b : ℕ) where
-  abbrev Write-judged : ℕ → Type 0
-  Write-judged = Judged (writeCases t image undo block b) (WriteReady t image undo block b)
-
-  pub write-wrong-size : (WrongSize imageBytes image ⊎ (WrongSize undoBytes undo ⊎ WrongSize blockBytes block)) → Write-judged 1
+  pub write-wrong-size : (WrongSize imageBytes image ⊎ (WrongSize undoBytes undo ⊎ WrongSize blockBytes block)) → WriteJudged t image undo block b 1
   write-wrong-size w = judged 1 (λ e. omega arith) (holds w)
 
-  module _ (i : length image ≡ imageBytes) (u : length undo ≡ undoBytes) (w : length block ≡ blockBytes) where
-    sizes : (WrongSize imageBytes image ⊎ (WrongSize undoBytes undo ⊎ WrongSize blockBytes block)) → ⊥
-    sizes = ⊎-elim (λ n. n i) (⊎-elim (λ n. n u) (λ n. n w))
+  -- the lent buffers are of their sizes
+  pub record WriteSized : Type 0 where
+    pub image-whole : length image ≡ imageBytes
+    pub undo-whole : length undo ≡ undoBytes
+    pub block-whole : length block ≡ blockBytes
 
-    pub write-unsound : (Sound t → ⊥) → Write-judged 2
+  module _ (w : WriteSized) where
+    sizes : (WrongSize imageBytes image ⊎ (WrongSize undoBytes undo ⊎ WrongSize blockBytes block)) → ⊥
+    sizes = ⊎-elim (λ n. n (w .image-whole)) (⊎-elim (λ n. n (w .undo-whole)) (λ n. n (w .block-whole)))
+
+    pub write-unsound : (Sound t → ⊥) → WriteJudged t image undo block b 2
     write-unsound n = judged 2 (λ e. omega arith) (passes sizes (holds n))
 
-    pub write-no-block : Sound t → blocks ≤ b → Write-judged 3
+    pub write-no-block : Sound t → blocks ≤ b → WriteJudged t image undo block b 3
     write-no-block s l = judged 3 (λ e. omega arith) (passes sizes (passes (λ n. n s) (holds l)))
 
-    pub write-flies : Sound t → b < blocks → Flies (t .slots) b → Write-judged 11
+    pub write-flies : Sound t → b < blocks → Flies (t .slots) b → WriteJudged t image undo block b 11
     write-flies s l f = judged 11 (λ e. omega arith) (passes sizes (passes (λ n. n s) (passes (λ m. omega arith) (holds f))))
 
-    pub write-none-waits : Sound t → b < blocks → (Flies (t .slots) b → ⊥) → (Waits (t .slots) b → ⊥) → Write-judged 12
+    pub write-none-waits : Sound t → b < blocks → (Flies (t .slots) b → ⊥) → (Waits (t .slots) b → ⊥)
+        → WriteJudged t image undo block b 12
     write-none-waits s l f n = judged 12 (λ e. omega arith) (passes sizes (passes (λ n. n s) (passes (λ m. omega arith) (passes f (holds n)))))
 
-  pub write-refused : (k : ℕ) → (k ≡ 0 → ⊥) → Write-judged k → Writes t image undo block b (writeRefused t image undo block k)
+  pub write-refused : (k : ℕ) → (k ≡ 0 → ⊥) → WriteJudged t image undo block b k → Writes t image undo block b (writeRefused t image undo block k)
   write-refused k d j = refuses k (j .refused d) refl d
 
   module _ (r : WriteReady t image undo block b) where
     -- past the early refusals only 13 is left
     late : {k : ℕ} → First (case 13 (OnlyEmpty (t .slots) b) ∷ []) k → First (writeCases t image undo block b) k
     late f =
-        passes (sizes (r .image-whole) (r .undo-whole) (r .block-whole))
+        passes (sizes (record { image-whole = r .image-whole; undo-whole = r .undo-whole; block-whole = r .block-whole }))
         (passes (λ n. n (r .sound)) (passes (λ m. omega (arith, r .is-block)) (passes (r .none-flies) (passes (λ n. n (r .some-waits)) f))))
 
     pub write-only-empty : Largest (t .slots) b 0 → Writes t image undo block b (writeRefused t image undo block 13)

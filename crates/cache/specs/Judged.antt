@@ -10,13 +10,18 @@ use Rattle.rules.specs.declared.Hold.the-variants as hold
 use Rattle.rules.specs.declared.Slot.{Slot}
 use Rattle.rules.specs.Sizes.{roomStart, blocks, blockBytes, imageBytes, undoBytes}
 use Rattle.rules.specs.Table.{Table, Sound, withSlots, withNext}
-use Rattle.rules.specs.Create.{acceptedSlots}
-use Rattle.rules.specs.Refusals.{Case, First, Flies, Waits}
+use Rattle.rules.specs.Create.{Change, acceptedSlots}
+use Rattle.rules.specs.Refusals.{Case, First, Flies, Waits, createCases, writeCases}
+use Rattle.rules.proofs.Granted.{CreatePassed}
 
 -- k is 0 and the call is ready to go on, or it is the first of the call's cases that holds
 pub record Judged (cases : List Case) (Ready : Type 0) (k : ℕ) : Type 0 where
   pub refused : (k ≡ 0 → ⊥) → First cases k
   pub ready : k ≡ 0 → Ready
+
+-- the refusals 1 to 8 of a create are judged
+abbrev pub CreateJudged : Table → List ℕ → List ℕ → Change → ℕ → Type 0
+CreateJudged t image undo c = Judged (createCases t image undo c) (CreatePassed t image undo c)
 
 -- none of 1 to 12 holds of a write
 pub record WriteReady (t : Table) (image undo block : List ℕ) (b : ℕ) : Type 0 where
@@ -27,6 +32,10 @@ pub record WriteReady (t : Table) (image undo block : List ℕ) (b : ℕ) : Type
   pub is-block : b < blocks
   pub none-flies : Flies (t .slots) b → ⊥
   pub some-waits : Waits (t .slots) b
+
+-- the refusals 1 to 12 of a write are judged
+abbrev pub WriteJudged : Table → List ℕ → List ℕ → List ℕ → ℕ → ℕ → Type 0
+WriteJudged t image undo block b = Judged (writeCases t image undo block b) (WriteReady t image undo block b)
 
 -- the undo area once the n old bytes of the image from place `at` are kept, where the patch is soft
 abbrev pub keptAt : List ℕ → List ℕ → ℕ → ℕ → Hold → List ℕ

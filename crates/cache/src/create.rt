@@ -5,11 +5,9 @@ ghost use mathlib.Core.Path.{_≡_};
 ghost use Rattle.ground.specs.Decides.{Decides};
 ghost use Rattle.rules.specs.Table.{Sound};
 ghost use Rattle.rules.specs.Create.{patch};
-ghost use Rattle.rules.specs.Refusals.{createCases};
 ghost use Rattle.rules.specs.Calls.{Creates};
-ghost use Rattle.cache.specs.Seen.{seen, creation};
-ghost use Rattle.cache.specs.Judged.{Judged, keptAt, withPatch};
-ghost use Rattle.rules.proofs.Granted.{CreatePassed};
+ghost use Rattle.cache.specs.Seen.{seen, changeOf, creation};
+ghost use Rattle.cache.specs.Judged.{CreateJudged, keptAt, withPatch};
 use crate::Created;
 use crate::Table;
 use accept::accepted::accepted;
@@ -66,12 +64,8 @@ impl Table {
         sound: bool,
     ) -> u32
         requires { ⌜ Decides (Sound (seen self)) sound ⌝ }
-        ensures { λ r. ⌜ Judged
-            (createCases (seen self) (now (image .entry)) (now (undo .entry))
-            (record { block = block; offset = offset; bytes = now (bytes .entry); named = now (named .entry) }))
-            (CreatePassed (seen self) (now (image .entry)) (now (undo .entry))
-            (record { block = block; offset = offset; bytes = now (bytes .entry); named = now (named .entry) }))
-            r ⌝ }
+        ensures { λ r. ⌜ CreateJudged (seen self) (now (image .entry)) (now (undo .entry))
+            (changeOf block offset (now (bytes .entry)) (now (named .entry))) r ⌝ }
     {
         if image.len() != IMAGE_BYTES {
             return BUFFER_SIZE;
@@ -109,7 +103,7 @@ impl Table {
     // The new patch: the number next, its block and range, waiting, with its befores.
     fn patch(self, block: u32, offset: u32, bytes: &[u8], named: &[u32], hold: Hold) -> Slot
         requires { ⌜ length (now bytes) ≤ 64 ⌝ }
-        ensures { λ r. ⌜ r ≡ patch (seen self) (record { block = block; offset = offset; bytes = now (bytes .entry); named = now (named .entry) }) hold ⌝ }
+        ensures { λ r. ⌜ r ≡ patch (seen self) (changeOf block offset (now (bytes .entry)) (now (named .entry))) hold ⌝ }
     {
         let slots = self.slots;
         Slot {
@@ -143,7 +137,7 @@ impl Table {
         named: &[u32],
     ) -> Created
         ensures { λ r. ⌜ Creates (seen self) (now (image .entry)) (now (undo .entry))
-            (record { block = block; offset = offset; bytes = now (bytes .entry); named = now (named .entry) })
+            (changeOf block offset (now (bytes .entry)) (now (named .entry)))
             (creation r (now (image .exit)) (now (undo .exit))) ⌝ }
     {
         let slots = self.slots;

@@ -1,9 +1,8 @@
 // Write: the largest set of the block's waiting patches that may go, goes.
-ghost use Rattle.rules.specs.Refusals.{writeCases};
 ghost use Rattle.rules.specs.Calls.{Writes};
 ghost use Rattle.slots.specs.Walks.{PatchesOn};
 ghost use Rattle.cache.specs.Seen.{seen, writing};
-ghost use Rattle.cache.specs.Judged.{Judged, WriteReady};
+ghost use Rattle.cache.specs.Judged.{WriteJudged};
 use crate::Table;
 use crate::Written;
 use rules::WriteAnswer;
@@ -28,10 +27,7 @@ impl Table {
     // The first of the refusals 1 to 12 that holds, or 0.
     fn write_refusal(self, image: &[u8], undo: &[u8], handed: &[u8], block: u32, on: Patches) -> u32
         requires { ⌜ PatchesOn (self .slots) block on ⌝ }
-        ensures { λ r. ⌜ Judged
-            (writeCases (seen self) (now (image .entry)) (now (undo .entry)) (now (handed .entry)) block)
-            (WriteReady (seen self) (now (image .entry)) (now (undo .entry)) (now (handed .entry)) block)
-            r ⌝ }
+        ensures { λ r. ⌜ WriteJudged (seen self) (now (image .entry)) (now (undo .entry)) (now (handed .entry)) block r ⌝ }
     {
         if image.len() != IMAGE_BYTES {
             return BUFFER_SIZE;

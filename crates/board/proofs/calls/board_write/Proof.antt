@@ -1,4 +1,5 @@
 -- `calls::board_write` meets its contract. Assumes nothing.
+use Prim.Native.Nat.{ℕ}
 use mathlib.Core.Path.{_≡_, _∙_}
 use mathlib.Core.Logic.{inl, inr, ⊎-elim}
 use denote.Ref.{now}
@@ -13,6 +14,42 @@ use borrow.Author.Needs.{needs}
 use Rattle.board.proofs.calls.board_write.Statement.{statement}
 use Rattle.board.proofs.calls.board_write.Tie as tie
 
+-- The places: where the call starts, where the bytes have been found to be no table, or a table, where the table has been read, where `cache` has made
+-- the writing, where it is known to be granted, and where the next table has been written.
+abbrev start : tie.After-is-table → tie.Start
+start c = c .before .before .before .before .before .before
+
+abbrev at-none : tie.Else3 → tie.Then1
+at-none c = c .before .before
+
+abbrev at-table : tie.After-table-in → tie.Else1
+at-table c = c .before .before
+
+abbrev at-read : tie.After-write → tie.After-table-in
+at-read c = c .before .before
+
+abbrev at-made : tie.After-slice-known3 → tie.After-write
+at-made c = c .before .before
+
+abbrev at-granted : tie.After-store → tie.After-answer
+at-granted c = c .before .before .before .before
+
+abbrev at-stored : tie.After-slice-known4 → tie.After-store
+at-stored c = c .before .before
+
+-- the writing, with the buffers afterwards; the set that is sent where it is granted, and the refusal where it is not
+abbrev made : tie.After-write → Writing
+made c =
+    let a = start (at-table (at-read c) .before) .args in
+    let past-image = c .write .last .1 .1 in
+    writing (c .write .result) (now (a .image)) (now (a .undo)) (past-image .1 .0)
+
+abbrev set : tie.After-answer → ℕ
+set c = c .answer .given .0 .0
+
+abbrev refusal : tie.After-answer2 → ℕ
+refusal c = c .answer2 .given .0 .0
+
 is-table-requires : tie.Need-is-table-requires
 is-table-requires c κs = search needs
 
@@ -20,20 +57,14 @@ same-length : tie.Need-same-length
 same-length c = search needs
 
 -- where the bytes have been found to be a table, and the table that is read
-table-here : (c : tie.Else1) → IsTable (now (c .before .before .before .before .before .before .before .args .table))
-table-here c = yes-not (c .before .is-table .result) (c .before .is-table .ensures) (c .if1 .left)
+table-here : (c : tie.After-table-in) → IsTable (now (start (at-table c .before) .args .table))
+table-here c = let e = at-table c in yes-not (e .before .is-table .result) (e .before .is-table .ensures) (e .if1 .left)
 
-seen-here : (c : tie.After-table-in)
-    → seen (c .table-in .result) ≡ tableIn (now (c .before .before .before .before .before .before .before .before .before .args .table))
-seen-here c = c .table-in .ensures ∙ read-whole _ (table-here (c .before .before) .size)
+seen-here : (c : tie.After-table-in) → seen (c .table-in .result) ≡ tableIn (now (start (at-table c .before) .args .table))
+seen-here c = c .table-in .ensures ∙ read-whole _ (table-here c .size)
 
-none-here : (c : tie.Then1) → IsTable (now (c .before .before .before .before .before .before .before .args .table)) → ⊥
+none-here : (c : tie.Then1) → IsTable (now (start (c .before) .args .table)) → ⊥
 none-here c = no-not (c .before .is-table .result) (c .before .is-table .ensures) (c .if1 .taken)
-
--- what the call has made
-abbrev made : tie.After-write → Writing
-made c = writing (c .write .result) (now (c .before .before .before .before .before .before .before .before .before .before .before .args .image))
-    (now (c .before .before .before .before .before .before .before .before .before .before .before .args .undo)) (c .write .last .1 .1 .1 .0)
 
 returns : tie.Need-returns
 returns c = write-none _ _ _ _ _ 1 (none-here (c .before)) (holds (inl (c .if2 .taken)))
@@ -48,14 +79,14 @@ same-length-3 : tie.Need-same-length-3
 same-length-3 c = search needs
 
 returns-3 : tie.Need-returns-3
-returns-3 c = write-none _ _ _ _ _ 1 (none-here (c .before .before .before)) (holds (inr (inr (c .if4 .taken))))
+returns-3 c = write-none _ _ _ _ _ 1 (none-here (at-none (c .before))) (holds (inr (inr (c .if4 .taken))))
 
 same-length-4 : tie.Need-same-length-4
 same-length-4 c = search needs
 
 returns-4 : tie.Need-returns-4
 returns-4 c =
-    let d = none-here (c .before .before .before) in
+    let d = none-here (at-none (c .before)) in
     write-none _ _ _ _ _ 2 d
     (passes (⊎-elim (λ n. n (c .before .before .if2 .left)) (⊎-elim (λ n. n (c .before .if3 .left)) (λ n. n (c .if4 .left)))) (holds d))
 
@@ -82,11 +113,12 @@ same-length-6 c = search needs
 
 returns-5 : tie.Need-returns-5
 returns-5 c =
-    let r = c .before .before .before .before .before .before .before .before .before .before in
-    let i = table-here (r .before .before .before .before) in
-    let g = c .before .before .before .before .before .before .answer .given in
-    write-granted-here (made r) i (seen-here (r .before .before)) (r .write .ensures) (g .0 .0) (g .1)
-    (c .before .before .store .ensures ∙ stored-whole _ _ (i .size))
+    let w = at-stored c in
+    let g = at-granted w in
+    let r = at-made (g .before .before) in
+    let i = table-here (at-read r) in
+    write-granted-here (made r) i (seen-here (at-read r)) (r .write .ensures) (set g) (g .answer .given .1)
+    (w .store .ensures ∙ stored-whole _ _ (i .size))
 
 same-length-7 : tie.Need-same-length-7
 same-length-7 c = search needs
@@ -96,9 +128,9 @@ same-length-8 c = search needs
 
 returns-6 : tie.Need-returns-6
 returns-6 c =
-    let r = c .before .before .before .before .before in
-    let g = c .before .answer2 .given in
-    write-refused-here (made r) (table-here (r .before .before .before .before)) (seen-here (r .before .before)) (r .write .ensures) (g .0 .0) (g .1)
+    let k = c .before in
+    let r = at-made (k .before .before) in
+    write-refused-here (made r) (table-here (at-read r)) (seen-here (at-read r)) (r .write .ensures) (refusal k) (k .answer2 .given .1)
 
 pub board-write-spec : {M : Type 1} → statement M
 board-write-spec =

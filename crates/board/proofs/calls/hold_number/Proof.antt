@@ -8,6 +8,10 @@ use Rattle.board.specs.Calls.{holdNumber}
 use Rattle.board.proofs.calls.hold_number.Statement.{statement}
 use Rattle.board.proofs.calls.hold_number.Tie as tie
 
+-- The place where the call starts.
+abbrev start : tie.After-h → tie.Start
+start c = c .before .before
+
 enum-told : tie.Need-enum-told
 enum-told c = search needs
 
@@ -15,7 +19,8 @@ enum-known-h : tie.Need-enum-known-h
 enum-known-h c = search needs
 
 add-result : tie.Need-add-result
-add-result c = record { fits = subst (λ (x : Hold). holdNumber (some x) < 4294967296) (c .before .h .given .1) (c .before .before .before .pre) }
+add-result c =
+    let h = c .before in record { fits = subst (λ (x : Hold). holdNumber (some x) < 4294967296) (h .h .given .1) (start h .pre) }
 
 returns : tie.Need-returns
 returns c = search needs

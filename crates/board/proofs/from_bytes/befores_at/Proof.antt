@@ -1,10 +1,14 @@
--- `read::befores_at` meets its contract. Assumes nothing.
+-- `from_bytes::befores_at` meets its contract. Assumes nothing.
 use native.Mathlib.Omega.{arith}
 use denote.Ref.{now}
 use Rattle.board.proofs.Numbers.{number-8}
 use borrow.Author.Needs.{needs}
 use Rattle.board.proofs.from_bytes.befores_at.Statement.{statement}
 use Rattle.board.proofs.from_bytes.befores_at.Tie as tie
+
+-- The place where the call starts.
+abbrev start : tie.After-number-at2 → tie.Start
+start c = c .before .before .before
 
 number-at-requires : tie.Need-number-at-requires
 number-at-requires c κs = search needs
@@ -28,7 +32,7 @@ add-result : tie.Need-add-result
 add-result c = search needs
 
 returns : tie.Need-returns
-returns c = let a = c .before .before .before .args in omega (arith, number-8 (now (a .bytes)) (a .at))
+returns c = let a = start c .args in omega (arith, number-8 (now (a .bytes)) (a .at))
 
 pub befores-at-spec : {M : Type 1} → statement M
 befores-at-spec =

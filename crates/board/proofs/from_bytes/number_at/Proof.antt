@@ -1,10 +1,14 @@
--- `read::number_at` meets its contract. Assumes nothing.
+-- `from_bytes::number_at` meets its contract. Assumes nothing.
 use native.Mathlib.Omega.{arith}
 use denote.Ref.{now}
 use Rattle.board.proofs.Numbers.{number-4}
 use borrow.Author.Needs.{needs}
 use Rattle.board.proofs.from_bytes.number_at.Statement.{statement}
 use Rattle.board.proofs.from_bytes.number_at.Tie as tie
+
+-- The place where the call starts.
+abbrev start : tie.After-wide4 → tie.Start
+start c = c .before .before .before .before .before .before .before .before .before
 
 shared-slice-read-wide : tie.Need-shared-slice-read-wide
 shared-slice-read-wide c = search needs
@@ -58,7 +62,7 @@ add-result-3 : tie.Need-add-result-3
 add-result-3 c = search needs
 
 returns : tie.Need-returns
-returns c = let a = c .before .before .before .before .before .before .before .before .before .args in omega (arith, number-4 (now (a .bytes)) (a .at))
+returns c = let a = start c .args in omega (arith, number-4 (now (a .bytes)) (a .at))
 
 pub number-at-spec : {M : Type 1} → statement M
 number-at-spec =

@@ -1,4 +1,4 @@
--- `read::slot_in` meets its contract: field by field. Assumes nothing.
+-- `from_bytes::slot_in` meets its contract: field by field. Assumes nothing.
 use mathlib.Core.Path.{ap₂, _∙_}
 use Rattle.board.specs.Layout.{stateOf, slotIn}
 use borrow.Author.Needs.{needs}

@@ -1,4 +1,4 @@
--- `read::slots_in` meets its contract: a walk that sets each slot to what its bytes mean. Assumes nothing.
+-- `from_bytes::slots_in` meets its contract: a walk that sets each slot to what its bytes mean. Assumes nothing.
 use Prim.Native.Nat.{_≤_, _-_}
 use mathlib.Core.Path.{refl}
 use native.Mathlib.Omega.{arith}

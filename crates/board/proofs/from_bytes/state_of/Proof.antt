@@ -1,4 +1,4 @@
--- `read::state_of` meets its contract: each tag in turn. Assumes nothing.
+-- `from_bytes::state_of` meets its contract: each tag in turn. Assumes nothing.
 use borrow.Author.Tests.{ne-eqb}
 use Rattle.board.proofs.from_bytes.state_of.Statement.{statement}
 use Rattle.board.proofs.from_bytes.state_of.Tie as tie
@@ -17,8 +17,12 @@ returns-4 c = rw (c .match .keys4)
 
 returns-5 : tie.Need-returns-5
 returns-5 c =
-    let a = c .before .args .tag in
-    rw (ne-eqb a 0 (c .match .rest .0 .0 .0 .1), ne-eqb a 1 (c .match .rest .0 .0 .1), ne-eqb a 2 (c .match .rest .0 .1), ne-eqb a 3 (c .match .rest .1))
+    let tag = c .before .args .tag in
+    let past-3 = c .match .rest in
+    let past-2 = past-3 .0 in
+    let past-1 = past-2 .0 in
+    let past-0 = past-1 .0 in
+    rw (ne-eqb tag 0 (past-0 .1), ne-eqb tag 1 (past-1 .1), ne-eqb tag 2 (past-2 .1), ne-eqb tag 3 (past-3 .1))
 
 pub state-of-spec : {M : Type 1} → statement M
 state-of-spec = tie.close (tie.spec returns returns-2 returns-3 returns-4 returns-5)

@@ -1,4 +1,4 @@
--- `read::table_in` meets its contract: field by field. Assumes nothing.
+-- `from_bytes::table_in` meets its contract: field by field. Assumes nothing.
 use mathlib.Core.Path.{sym, _∙_}
 use Rattle.cache.specs.Seen.{opening}
 use Rattle.board.specs.Layout.{tableIn}
@@ -7,6 +7,13 @@ use denote.Ref.{now}
 use borrow.Author.Needs.{needs}
 use Rattle.board.proofs.from_bytes.table_in.Statement.{statement}
 use Rattle.board.proofs.from_bytes.table_in.Tie as tie
+
+-- The places: where the call starts, and where the size has been found right.
+abbrev start : tie.Else1 → tie.Start
+start c = c .before .before
+
+abbrev at-sized : tie.After-slots-in → tie.Else1
+at-sized c = c .before .before .before
 
 open-requires : tie.Need-open-requires
 open-requires c κs = search needs
@@ -28,10 +35,9 @@ slots-in-requires c κs = search needs
 returns-2 : tie.Need-returns-2
 unfolding tableIn
 returns-2 c =
-    let next = c .before in
-    let test = next .before .before in
-    let bytes = now (test .before .before .args .bytes) in
-    _∙_ {b = tableIn bytes} (cc) (sym (read-whole bytes (test .if1 .left)))
+    let e = at-sized c in
+    let bytes = now (start e .args .bytes) in
+    _∙_ {b = tableIn bytes} (cc) (sym (read-whole bytes (e .if1 .left)))
 
 pub table-in-spec : {M : Type 1} → statement M
 table-in-spec =

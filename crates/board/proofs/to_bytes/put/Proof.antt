@@ -1,4 +1,4 @@
--- `write::put` meets its contract: four bytes stored are four laid. Assumes nothing.
+-- `to_bytes::put` meets its contract: four bytes stored are four laid. Assumes nothing.
 use native.Mathlib.Omega.{arith}
 use denote.Ref.{now}
 use lib.ListN.{length-set}

@@ -1,4 +1,4 @@
--- `write::put_befores` meets its contract: the lower four bytes, and the upper right after them. Assumes nothing.
+-- `to_bytes::put_befores` meets its contract: the lower four bytes, and the upper right after them. Assumes nothing.
 use Prim.Native.Nat.{ℕ, _/_, _%_}
 use mathlib.Core.Path.{ap, _∙_}
 use mathlib.Core.List.{List}
@@ -10,6 +10,13 @@ use Rattle.board.proofs.Laid.{laid, length-four}
 use borrow.Author.Needs.{needs}
 use Rattle.board.proofs.to_bytes.put_befores.Statement.{statement}
 use Rattle.board.proofs.to_bytes.put_befores.Tie as tie
+
+-- The places: where the call starts, and where the lower four bytes have been put.
+abbrev start : tie.After-put → tie.Start
+start c = c .before .before .before
+
+abbrev at-lower : tie.After-put2 → tie.After-put
+at-lower c = c .before .before .before .before
 
 cast-put : tie.Need-cast-put
 cast-put c = search needs
@@ -31,10 +38,10 @@ same-length c = search needs
 
 returns : tie.Need-returns
 returns c =
-    let p2 = c .before .before in
-    let p1 = p2 .before .before .before .before in
-    let a = p1 .before .before .before .args in
-    laid 4 (inBytes 4 (a .x / 4294967296)) (record { is = p1 .put .ensures }) (p2 .put2 .ensures) (length-four (a .x % 4294967296)) .is
+    let upper = c .before .before in
+    let lower = at-lower upper in
+    let a = start lower .args in
+    laid 4 (inBytes 4 (a .x / 4294967296)) (record { is = lower .put .ensures }) (upper .put2 .ensures) (length-four (a .x % 4294967296)) .is
     ∙ ap (λ (ys : List ℕ). splice (now (a .bytes)) (a .at) ys) (bytes-8 (a .x))
 
 pub put-befores-spec : {M : Type 1} → statement M

@@ -1,4 +1,4 @@
--- `write::put_slot` meets its contract: seven numbers, each right after the one before. Assumes nothing.
+-- `to_bytes::put_slot` meets its contract: seven numbers, each right after the one before. Assumes nothing.
 use Prim.Native.Nat.{ℕ, _+_}
 use mathlib.Core.Path.{refl, ap, _∙_}
 use denote.Ref.{now}
@@ -9,6 +9,28 @@ use Rattle.board.proofs.Laid.{laid}
 use borrow.Author.Needs.{needs}
 use Rattle.board.proofs.to_bytes.put_slot.Statement.{statement}
 use Rattle.board.proofs.to_bytes.put_slot.Tie as tie
+
+-- The places: where the call starts, and where each number but the last has been put.
+abbrev start : tie.After-put → tie.Start
+start c = c .before .before .before .before
+
+abbrev at-tag : tie.After-put2 → tie.After-put
+at-tag c = c .before .before .before .before .before
+
+abbrev at-room : tie.After-put3 → tie.After-put2
+at-room c = c .before .before .before .before
+
+abbrev at-number : tie.After-put4 → tie.After-put3
+at-number c = c .before .before .before .before
+
+abbrev at-block : tie.After-put5 → tie.After-put4
+at-block c = c .before .before .before .before
+
+abbrev at-offset : tie.After-put6 → tie.After-put5
+at-offset c = c .before .before .before .before
+
+abbrev at-len : tie.After-put-befores → tie.After-put6
+at-len c = c .before .before .before .before
 
 tag-of-requires : tie.Need-tag-of-requires
 tag-of-requires c κs = search needs
@@ -61,14 +83,14 @@ same-length c = search needs
 returns : tie.Need-returns
 unfolding inBytes slotBytes
 returns c =
-    let p7 = c .before .before in
-    let p6 = p7 .before .before .before .before in
-    let p5 = p6 .before .before .before .before in
-    let p4 = p5 .before .before .before .before in
-    let p3 = p4 .before .before .before .before in
-    let p2 = p3 .before .before .before .before in
-    let p1 = p2 .before .before .before .before .before in
-    let a = p1 .before .before .before .before .args in
+    let befores = c .before .before in
+    let len = at-len befores in
+    let offset = at-offset len in
+    let block = at-block offset in
+    let number = at-number block in
+    let room = at-room number in
+    let tag = at-tag room in
+    let a = start tag .args in
     let s = a .s in
     laid 24 (inBytes 8 (s .befores))
     (laid 20 (inBytes 4 (s .len))
@@ -76,13 +98,13 @@ returns c =
     (laid 12 (inBytes 4 (s .block))
     (laid 8 (inBytes 4 (s .number))
     (laid 4 (inBytes 4 (roomOf (s .state)))
-    (record { is = p1 .put .ensures ∙ ap (λ (x : ℕ). splice (now (a .bytes)) (a .at) (inBytes 4 x)) (p1 .before .tag-of .ensures) })
-    (p2 .put2 .ensures ∙ ap (λ (x : ℕ). splice (p1 .put .last .0) (a .at + 4) (inBytes 4 x)) (p2 .before .room-of .ensures)) refl)
-    (p3 .put3 .ensures) refl)
-    (p4 .put4 .ensures) refl)
-    (p5 .put5 .ensures) refl)
-    (p6 .put6 .ensures) refl)
-    (p7 .put-befores .ensures) refl .is
+    (record { is = tag .put .ensures ∙ ap (λ (x : ℕ). splice (now (a .bytes)) (a .at) (inBytes 4 x)) (tag .before .tag-of .ensures) })
+    (room .put2 .ensures ∙ ap (λ (x : ℕ). splice (tag .put .last .0) (a .at + 4) (inBytes 4 x)) (room .before .room-of .ensures)) refl)
+    (number .put3 .ensures) refl)
+    (block .put4 .ensures) refl)
+    (offset .put5 .ensures) refl)
+    (len .put6 .ensures) refl)
+    (befores .put-befores .ensures) refl .is
 
 pub put-slot-spec : {M : Type 1} → statement M
 put-slot-spec =

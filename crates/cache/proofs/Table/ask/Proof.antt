@@ -1,46 +1,67 @@
 -- `Table::ask` meets its contract: a sound table, an issued number, and the slot that has it, if one does. Assumes nothing.
-use Prim.Native.Nat.{_<_}
-use mathlib.Core.Path.{refl, ap}
+use Prim.Native.Nat.{ℕ, _<_}
+use mathlib.Core.Path.{_≡_, refl, ap}
 use native.Mathlib.Omega.{arith}
 use native.Mathlib.Nat.{not-le-of-lt}
 use borrow.Author.Needs.{needs}
 use Rattle.ground.proofs.Decided.{clash, yes-not, no-not}
+use Rattle.rules.specs.declared.AskAnswer.{AskAnswer}
 use Rattle.rules.specs.declared.AskAnswer.the-variants as ask
 use Rattle.rules.specs.Slots.{isUsed, isWaiting, isInFlight}
+use Rattle.rules.specs.Table as rules
 use Rattle.rules.specs.Table.{Sound, Issued, InSlot}
-use Rattle.rules.specs.Ask.{Asked}
+use Rattle.rules.specs.Ask.{askWord, Asked}
+use Rattle.rules.specs.Calls.{askNumber, Asks}
 use Rattle.cache.specs.Seen.{seen}
 use Rattle.cache.proofs.Looks.{ask-unsound, ask-unissued, ask-granted}
 use Rattle.cache.proofs.Table.ask.Statement.{statement}
 use Rattle.cache.proofs.Table.ask.Tie as tie
+
+-- The places: where the call starts, where the table has been found sound, and where the number has been found issued.
+abbrev start : tie.After-is-sound → tie.Start
+start c = c .before .before
+
+abbrev at-sound : tie.Else2 → tie.Else1
+at-sound c = c .before .before
+
+abbrev at-issued : tie.After-s → tie.Else3
+at-issued c = c .before .before .before
 
 is-sound-requires : tie.Need-is-sound-requires
 is-sound-requires c κs = search needs
 
 returns : tie.Need-returns
 returns c =
-    let a = c .before .before .before .args in
+    let a = start (c .before) .args in
     ask-unsound (seen (a .self)) (a .number) (no-not (c .before .is-sound .result) (c .before .is-sound .ensures) (c .if1 .taken))
 
--- where the table has been found sound
-sound-here : (c : tie.Else1) → Sound (seen (c .before .before .before .args .self))
+sound-here : (c : tie.Else1) → Sound (seen (start (c .before) .args .self))
 sound-here c = yes-not (c .before .is-sound .result) (c .before .is-sound .ensures) (c .if1 .left)
 
 returns-2 : tie.Need-returns-2
 returns-2 c =
-    let a = c .before .before .before .before .before .args in
-    ask-unissued (seen (a .self)) (a .number) (sound-here (c .before .before)) (λ i. not-le-of-lt (c .if2 .taken) (i .0))
+    let e = c .before .before in
+    let a = start (e .before) .args in
+    ask-unissued (seen (a .self)) (a .number) (sound-here e) (λ i. not-le-of-lt (c .if2 .taken) (i .0))
 
 returns-3 : tie.Need-returns-3
 returns-3 c =
-    let a = c .before .before .before .before .before .before .before .args in
-    ask-unissued (seen (a .self)) (a .number) (sound-here (c .before .before .before .before)) (λ i. not-le-of-lt (i .1) (c .if3 .taken))
+    let e = at-sound (c .before .before) in
+    let a = start (e .before) .args in
+    ask-unissued (seen (a .self)) (a .number) (sound-here e) (λ i. not-le-of-lt (i .1) (c .if3 .taken))
 
--- where the number has been found issued
-issued-here : (c : tie.Else3)
-    → Issued (seen (c .before .before .before .before .before .before .before .args .self))
-    (c .before .before .before .before .before .before .before .args .number)
+-- what was asked, where the number has been found issued
+abbrev table : tie.Else3 → rules.Table
+table c = seen (start (at-sound (c .before .before) .before) .args .self)
+
+abbrev number : tie.Else3 → ℕ
+number c = start (at-sound (c .before .before) .before) .args .number
+
+issued-here : (c : tie.Else3) → Issued (table c) (number c)
 issued-here c = (c .before .before .if2 .left, c .if3 .left)
+
+granted-here : (c : tie.Else3) (a : AskAnswer) → askNumber a ≡ 0 → Asked (table c) (number c) (askWord a) → Asks (table c) (number c) a
+granted-here c a z g = ask-granted (table c) (number c) a z (sound-here (at-sound (c .before .before))) (issued-here c) g
 
 find-requires : tie.Need-find-requires
 find-requires c κs = search needs
@@ -48,10 +69,8 @@ find-requires c κs = search needs
 returns-4 : tie.Need-returns-4
 returns-4 c =
     let e = c .before .before in
-    let a = e .before .before .before .before .before .before .before .args in
-    let d = issued-here e in
-    ask-granted (seen (a .self)) (a .number) ask.Committed refl (sound-here (e .before .before .before .before)) d
-    (Asked.committed refl (d, λ i s. c .before .find .ensures .none-below i (omega arith) (s .1, s .2)))
+    granted-here e ask.Committed refl
+    (Asked.committed refl (issued-here e, λ i s. c .before .find .ensures .none-below i (omega arith) (s .1, s .2)))
 
 mul-s : tie.Need-mul-s
 mul-s c = search needs
@@ -69,29 +88,24 @@ enum-told-3 : tie.Need-enum-told-3
 enum-told-3 c = search needs
 
 -- the slot that was found has the number
-in-slot : (c : tie.Else4)
-    → InSlot (seen (c .before .before .before .before .before .before .before .before .before .args .self))
-    (c .before .before .before .before .before .before .before .before .before .args .number) (c .before .find .result)
-in-slot c = let l : c .before .find .result < 64 = omega arith in let t = c .before .find .ensures .there l in (l, t .0, t .1)
+abbrev found : tie.After-s → ℕ
+found c = c .before .before .find .result
+
+in-slot : (c : tie.After-s) → InSlot (table (at-issued c)) (number (at-issued c)) (found c)
+in-slot c = let l : found c < 64 = omega arith in let t = c .before .before .find .ensures .there l in (l, t .0, t .1)
 
 returns-5 : tie.Need-returns-5
-returns-5 c = absurd (clash (in-slot (c .before .before .before) .1) (ap isUsed (c .enum-told .given .1)))
+returns-5 c = absurd (clash (in-slot (c .before .before) .1) (ap isUsed (c .enum-told .given .1)))
 
 returns-6 : tie.Need-returns-6
 returns-6 c =
-    let f = c .before .before .before in
-    let e = f .before .before in
-    let a = e .before .before .before .before .before .before .before .args in
-    ask-granted (seen (a .self)) (a .number) ask.Waiting refl (sound-here (e .before .before .before .before)) (issued-here e)
-    (Asked.waiting refl (f .before .find .result) (in-slot f) (ap isWaiting (c .enum-told2 .given .1)))
+    let s = c .before .before in
+    granted-here (at-issued s) ask.Waiting refl (Asked.waiting refl (found s) (in-slot s) (ap isWaiting (c .enum-told2 .given .1)))
 
 returns-7 : tie.Need-returns-7
 returns-7 c =
-    let f = c .before .before .before in
-    let e = f .before .before in
-    let a = e .before .before .before .before .before .before .before .args in
-    ask-granted (seen (a .self)) (a .number) ask.InFlight refl (sound-here (e .before .before .before .before)) (issued-here e)
-    (Asked.inFlight refl (f .before .find .result) (in-slot f) (ap isInFlight (c .enum-told3 .given .1)))
+    let s = c .before .before in
+    granted-here (at-issued s) ask.InFlight refl (Asked.inFlight refl (found s) (in-slot s) (ap isInFlight (c .enum-told3 .given .1)))
 
 pub ask-spec : {M : Type 1} → statement M
 ask-spec =

@@ -18,34 +18,38 @@ use Rattle.cache.proofs.Sent.{complete-unsound, complete-no-block, comp
 use Rattle.cache.proofs.Table.complete.Statement.{statement}
 use Rattle.cache.proofs.Table.complete.Tie as tie
 
+-- The place where the call starts.
+abbrev start : tie.After-is-sound → tie.Start
+start c = c .before .before
+
 is-sound-requires : tie.Need-is-sound-requires
 is-sound-requires c κs = search needs
 
 returns : tie.Need-returns
 returns c =
-    let a = c .before .before .before .args in
+    let a = start (c .before) .args in
     complete-unsound (seen (a .self)) (a .block) (no-not (c .before .is-sound .result) (c .before .is-sound .ensures) (c .if1 .taken))
 
 -- where the table has been found sound
-sound-here : (c : tie.Else1) → Sound (seen (c .before .before .before .args .self))
+sound-here : (c : tie.Else1) → Sound (seen (start (c .before) .args .self))
 sound-here c = yes-not (c .before .is-sound .result) (c .before .is-sound .ensures) (c .if1 .left)
 
 returns-2 : tie.Need-returns-2
 returns-2 c =
-    let a = c .before .before .before .before .args in
+    let a = start (c .before .before) .args in
     complete-no-block (seen (a .self)) (a .block) (sound-here (c .before)) (c .if2 .taken)
 
 patches-on-requires : tie.Need-patches-on-requires
 patches-on-requires c κs = search needs
 
 -- where the block has been found to be one
-block-here : (c : tie.Else2) → c .before .before .before .before .args .block < blocks
+block-here : (c : tie.Else2) → start (c .before .before) .args .block < blocks
 block-here c = omega (arith, c .if2 .left)
 
 returns-3 : tie.Need-returns-3
 returns-3 c =
     let e = c .before .before in
-    let a = e .before .before .before .before .args in
+    let a = start (e .before .before) .args in
     complete-none (seen (a .self)) (a .block) (sound-here (e .before)) (block-here e)
     (none-flies (c .before .patches-on .ensures) (c .if3 .taken))
 
@@ -60,7 +64,7 @@ unfolding completed completedSlots
 returns-4 c =
     let f = c .before .before in
     let e = f .before .before in
-    let a = e .before .before .before .before .args in
+    let a = start (e .before .before) .args in
     let on = f .before .patches-on .ensures in
     subst (λ (t : rules.Table). Completes (seen (a .self)) (a .block) (record { answer = answer.Granted; table = t }))
     (sym (c .with-slots .ensures

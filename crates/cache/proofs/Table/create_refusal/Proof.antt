@@ -5,11 +5,26 @@ use borrow.Author.Needs.{needs}
 use denote.Ref.{now}
 use Rattle.ground.proofs.Decided.{yes-of, no-of, yes-not, no-not}
 use Rattle.rules.specs.Table.{Sound}
-use Rattle.cache.specs.Seen.{seen}
-use Rattle.cache.proofs.Accepted.{create-wrong-size, create-unsound, create-no-block, create-wrong-length, create-past-end, Past5, create-many-named}
-use Rattle.cache.proofs.Accepted.{create-unissued, create-no-number, create-ready}
+use Rattle.rules.specs.Create.{Change}
+use Rattle.cache.specs.Seen.{seen, changeOf}
+use Rattle.cache.proofs.Accepted.{CreateSized, create-wrong-size, create-unsound, create-no-block, create-wrong-length, create-past-end}
+use Rattle.cache.proofs.Accepted.{Past5, create-many-named, create-unissued, create-no-number, create-ready}
 use Rattle.cache.proofs.Table.create_refusal.Statement.{statement}
 use Rattle.cache.proofs.Table.create_refusal.Tie as tie
+
+-- The places: where the call starts, where the sizes have been found right, and where the block has been found to be one.
+abbrev start : tie.Else1 → tie.Start
+start c = c .before .before .before .before .before
+
+abbrev at-sized : tie.Else4 → tie.Else2
+at-sized c = c .before .before
+
+abbrev at-block : tie.Else6 → tie.Else4
+at-block c = c .before .before
+
+-- the change that is asked for
+abbrev change : tie.Start → Change
+change s = changeOf (s .args .block) (s .args .offset) (now (s .args .bytes)) (now (s .args .named))
 
 returns : tie.Need-returns
 returns c = create-wrong-size _ _ _ _ (inl (c .if1 .taken))
@@ -17,67 +32,54 @@ returns c = create-wrong-size _ _ _ _ (inl (c .if1 .taken))
 returns-2 : tie.Need-returns-2
 returns-2 c = create-wrong-size _ _ _ _ (inr (c .if2 .taken))
 
+-- where the sizes have been found right
+sized-here : (c : tie.Else2) → let s = start (c .before) in CreateSized (seen (s .args .self)) (now (s .args .image)) (now (s .args .undo)) (change s)
+sized-here c = record { image-whole = c .before .if1 .left; undo-whole = c .if2 .left }
+
 returns-3 : tie.Need-returns-3
 returns-3 c =
-    let e2 = c .before in
-    let start = e2 .before .before .before .before .before .before in
-    create-unsound _ _ _ _ (e2 .before .if1 .left) (e2 .if2 .left) (no-not (start .args .sound) (start .pre) (c .if3 .taken))
+    let s = start (c .before .before) in create-unsound _ _ _ _ (sized-here (c .before)) (no-not (s .args .sound) (s .pre) (c .if3 .taken))
 
 -- where the table has been found sound
-sound-here : (c : tie.Else3) → Sound (seen (c .before .before .before .before .before .before .before .args .self))
-sound-here c = let start = c .before .before .before .before .before .before .before in yes-not (start .args .sound) (start .pre) (c .if3 .left)
+sound-here : (c : tie.Else3) → Sound (seen (start (c .before .before) .args .self))
+sound-here c = let s = start (c .before .before) in yes-not (s .args .sound) (s .pre) (c .if3 .left)
 
 returns-4 : tie.Need-returns-4
-returns-4 c =
-    let e3 = c .before in
-    let e2 = e3 .before in
-    create-no-block _ _ _ _ (e2 .before .if1 .left) (e2 .if2 .left) (sound-here e3) (c .if4 .taken)
+returns-4 c = let e = c .before in create-no-block _ _ _ _ (sized-here (e .before)) (sound-here e) (c .if4 .taken)
 
 returns-5 : tie.Need-returns-5
 returns-5 c =
-    let e4 = c .before in
-    let e3 = e4 .before in
-    let e2 = e3 .before in
-    create-wrong-length _ _ _ _ (e2 .before .if1 .left) (e2 .if2 .left) (sound-here e3) (omega (arith, e4 .if4 .left)) (inl (c .if5 .taken))
+    let b = c .before in
+    create-wrong-length _ _ _ _ (sized-here (at-sized b)) (sound-here (b .before)) (omega (arith, b .if4 .left)) (inl (c .if5 .taken))
 
 returns-6 : tie.Need-returns-6
 returns-6 c =
-    let e5 = c .before in
-    let e4 = e5 .before in
-    let e3 = e4 .before in
-    let e2 = e3 .before in
-    create-wrong-length _ _ _ _ (e2 .before .if1 .left) (e2 .if2 .left) (sound-here e3) (omega (arith, e4 .if4 .left)) (inr (c .if6 .taken))
+    let b = c .before .before in
+    create-wrong-length _ _ _ _ (sized-here (at-sized b)) (sound-here (b .before)) (omega (arith, b .if4 .left)) (inr (c .if6 .taken))
 
 sub-if7 : tie.Need-sub-if7
 sub-if7 c = search needs
 
 returns-7 : tie.Need-returns-7
 returns-7 c =
-    let e6 = c .before in
-    let e5 = e6 .before in
-    let e4 = e5 .before in
-    let e3 = e4 .before in
-    let e2 = e3 .before in
-    create-past-end _ _ _ _ (e2 .before .if1 .left) (e2 .if2 .left) (sound-here e3) (omega (arith, e4 .if4 .left)) (e5 .if5 .left) (e6 .if6 .left)
-    (omega (arith, c .if7 .taken, e6 .if6 .left))
+    let l = c .before in
+    let b = at-block l in
+    create-past-end _ _ _ _ (sized-here (at-sized b)) (sound-here (b .before)) (omega (arith, b .if4 .left)) (l .before .if5 .left) (l .if6 .left)
+    (omega (arith, c .if7 .taken, l .if6 .left))
 
 -- where none of 1 to 5 holds
-past-here : (c : tie.Else7) → let a = c .before .before .before .before .before .before .before .before .before .before .before .args in
-    Past5 (seen (a .self)) (now (a .image)) (now (a .undo)) (record { block = a .block; offset = a .offset; bytes = now (a .bytes); named = now (a .named) })
+past-here : (c : tie.Else7)
+    → let s = start (at-sized (at-block (c .before)) .before) in Past5 (seen (s .args .self)) (now (s .args .image)) (now (s .args .undo)) (change s)
 past-here c =
-    let e6 = c .before in
-    let e5 = e6 .before in
-    let e4 = e5 .before in
-    let e3 = e4 .before in
-    let e2 = e3 .before in
+    let l = c .before in
+    let b = at-block l in
     record {
-      image-whole = e2 .before .if1 .left;
-      undo-whole = e2 .if2 .left;
-      sound = sound-here e3;
-      is-block = omega (arith, e4 .if4 .left);
-      least = e5 .if5 .left;
-      most = e6 .if6 .left;
-      ends = omega (arith, c .if7 .left, e6 .if6 .left);
+      sized = sized-here (at-sized b);
+      sound = sound-here (b .before);
+      is-block = omega (arith, b .if4 .left);
+      least = l .before .if5 .left;
+      most = l .if6 .left;
+      ends = omega (arith, c .if7 .left, l .if6 .left);
     }
 
 returns-8 : tie.Need-returns-8

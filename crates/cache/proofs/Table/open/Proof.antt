@@ -13,6 +13,10 @@ use Rattle.cache.proofs.Looks.{open-no-first}
 use Rattle.cache.proofs.Table.open.Statement.{statement}
 use Rattle.cache.proofs.Table.open.Tie as tie
 
+-- The place where the call starts.
+abbrev start : tie.Else1 → tie.Start
+start c = c .before
+
 empty-requires : tie.Need-empty-requires
 empty-requires c κs = search needs
 
@@ -21,22 +25,25 @@ made : (n : ℕ) (x : Answer) (t u : rules.Table) → t ≡ u → Opens n (recor
 made n x t u e o = subst (λ (v : rules.Table). Opens n (record { answer = x; table = v })) (sym e) o
 
 returns : tie.Need-returns
-returns c = let n = c .before .before .args .first in made n (answer.Refused 15) _ (opened 1) (c .empty .ensures)
-    (open-no-first n (inl (c .before .if1 .taken)))
+returns c =
+    let n = c .before .before .args .first in
+    made n (answer.Refused 15) _ (opened 1) (c .empty .ensures) (open-no-first n (inl (c .before .if1 .taken)))
 
 empty-requires-2 : tie.Need-empty-requires-2
 empty-requires-2 c κs = search needs
 
 returns-2 : tie.Need-returns-2
-returns-2 c = let n = c .before .before .before .args .first in made n (answer.Refused 15) _ (opened 1) (c .empty2 .ensures)
-    (open-no-first n (inr (c .before .if2 .taken)))
+returns-2 c =
+    let n = start (c .before .before) .args .first in
+    made n (answer.Refused 15) _ (opened 1) (c .empty2 .ensures) (open-no-first n (inr (c .before .if2 .taken)))
 
 empty-requires-3 : tie.Need-empty-requires-3
 empty-requires-3 c κs = search needs
 
 returns-3 : tie.Need-returns-3
-returns-3 c = let n = c .before .before .before .args .first in made n answer.Granted _ (opened n) (c .empty3 .ensures)
-    (open-row n (c .before .before .if1 .left) (c .before .if2 .left))
+returns-3 c =
+    let n = start (c .before .before) .args .first in
+    made n answer.Granted _ (opened n) (c .empty3 .ensures) (open-row n (c .before .before .if1 .left) (c .before .if2 .left))
 
 pub open-spec : {M : Type 1} → statement M
 open-spec = tie.close (tie.spec empty-requires returns empty-requires-2 returns-2 empty-requires-3 returns-3)

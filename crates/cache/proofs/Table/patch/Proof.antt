@@ -4,10 +4,14 @@ use mathlib.Core.Path.{ap}
 use borrow.Author.Needs.{needs}
 use denote.Ref.{now}
 use Rattle.rules.specs.Slots.{withBefores}
-use Rattle.rules.specs.Create.{Change, patch}
-use Rattle.cache.specs.Seen.{seen}
+use Rattle.rules.specs.Create.{patch}
+use Rattle.cache.specs.Seen.{seen, changeOf}
 use Rattle.cache.proofs.Table.patch.Statement.{statement}
 use Rattle.cache.proofs.Table.patch.Tie as tie
+
+-- The place where the call starts.
+abbrev start : tie.After-befores → tie.Start
+start c = c .before .before .before .before
 
 cast-t10 : tie.Need-cast-t10
 cast-t10 c = search needs
@@ -18,8 +22,8 @@ befores-requires c κs = search needs
 returns : tie.Need-returns
 unfolding patch
 returns c =
-    let a = c .before .before .before .before .args in
-    let d : Change = record { block = a .block; offset = a .offset; bytes = now (a .bytes); named = now (a .named) } in
+    let a = start c .args in
+    let d = changeOf (a .block) (a .offset) (now (a .bytes)) (now (a .named)) in
     ap (λ (m : ℕ). withBefores m (patch (seen (a .self)) d (a .hold))) (c .befores .ensures)
 
 pub patch-spec : {M : Type 1} → statement M

@@ -10,6 +10,10 @@ use Rattle.cache.specs.Seen.{seen}
 use Rattle.cache.proofs.Table.with_patch.Statement.{statement}
 use Rattle.cache.proofs.Table.with_patch.Tie as tie
 
+-- The place where the call starts.
+abbrev start : tie.After-accepted → tie.Start
+start c = c .before .before
+
 accepted-requires : tie.Need-accepted-requires
 accepted-requires c κs = search needs
 
@@ -21,9 +25,10 @@ add-next c = search needs
 
 returns : tie.Need-returns
 returns c =
-    let a = c .before .before .before .before .args in
+    let p = c .before .before in
+    let a = start p .args in
     ap (λ (t : rules.Table). withNext (a .self .next + 1) t)
-    (c .before .with-slots .ensures ∙ ap (λ (ss : List Slot). withSlots ss (seen (a .self))) (c .before .before .accepted .ensures))
+    (c .before .with-slots .ensures ∙ ap (λ (ss : List Slot). withSlots ss (seen (a .self))) (p .accepted .ensures))
 
 pub with-patch-spec : {M : Type 1} → statement M
 with-patch-spec = tie.close (tie.spec accepted-requires with-slots-requires add-next returns)

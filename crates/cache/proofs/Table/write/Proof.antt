@@ -16,6 +16,16 @@ use Rattle.cache.proofs.Sent.{write-refused, write-only-empty, write-gr
 use Rattle.cache.proofs.Table.write.Statement.{statement}
 use Rattle.cache.proofs.Table.write.Tie as tie
 
+-- The places: where the sets of the block have been read, where the call starts, and where the block has been handed out.
+abbrev at-read : tie.After-write-refusal → tie.After-patches-on
+at-read c = c .before .before
+
+abbrev start : tie.After-write-refusal → tie.Start
+start c = at-read c .before .before .before .before .before
+
+abbrev at-handed : tie.After-with-slots → tie.After-hand-out
+at-handed c = c .before .before .before .before
+
 patches-on-requires : tie.Need-patches-on-requires
 patches-on-requires c κs = search needs
 
@@ -24,9 +34,6 @@ write-refusal-requires c κs = c .before .patches-on .ensures
 
 same-length : tie.Need-same-length
 same-length c = search needs
-
-abbrev start : tie.After-write-refusal → tie.Start
-start c = c .before .before .before .before .before .before .before
 
 returns : tie.Need-returns
 returns c =
@@ -39,8 +46,8 @@ ready-here : (c : tie.Else1) → let a = start (c .before) .args in WriteReady (
 ready-here c = c .before .write-refusal .ensures .ready (c .if1 .left)
 
 -- the sets of the block
-on-here : (c : tie.Else1) → let a = start (c .before) .args in PatchesOn (a .self .slots) (a .block) (c .before .before .before .patches-on .result)
-on-here c = c .before .before .before .patches-on .ensures
+on-here : (c : tie.Else1) → let a = start (c .before) .args in PatchesOn (a .self .slots) (a .block) (at-read (c .before) .patches-on .result)
+on-here c = at-read (c .before) .patches-on .ensures
 
 -- the set that goes is the largest
 largest-here : (c : tie.After-largest) → let a = start (c .before .before) .args in Largest (a .self .slots) (a .block) (c .largest .result)
@@ -77,7 +84,7 @@ same-length-3 c = search needs
 returns-3 : tie.Need-returns-3
 unfolding sent
 returns-3 c =
-    let h = c .before .before .before .before in
+    let h = at-handed c in
     let f = h .before .before in
     let e = f .before .before in
     let a = start (e .before) .args in

@@ -9,6 +9,16 @@ use Rattle.cache.specs.Judged.{keptAt}
 use Rattle.cache.proofs.create.keep.Statement.{statement}
 use Rattle.cache.proofs.create.keep.Tie as tie
 
+-- The places: where the call starts, and where the hold is known to be soft; and its room.
+abbrev start : tie.After-hold → tie.Start
+start c = c .before .before .before .before
+
+abbrev at-soft : tie.After-copy → tie.After-hold
+at-soft c = c .before .before .before
+
+abbrev room : tie.After-hold → ℕ
+room c = c .hold .given .0 .0
+
 enum-known-hold : tie.Need-enum-known-hold
 enum-known-hold c = search needs
 
@@ -29,10 +39,11 @@ same-length c = search needs
 
 returns : tie.Need-returns
 returns c =
-    let h = c .before .before .before .before .before in
-    let a = h .before .before .before .before .args in
-    c .before .before .copy .ensures
-    ∙ ap (λ (p : ℕ). splice (now (a .undo)) p (part (now (a .image)) (a .at) (a .n))) (mul-comm (h .hold .given .0 .0) 64)
+    let p = c .before .before in
+    let h = at-soft p in
+    let a = start h .args in
+    p .copy .ensures
+    ∙ ap (λ (p : ℕ). splice (now (a .undo)) p (part (now (a .image)) (a .at) (a .n))) (mul-comm (room h) 64)
     ∙ ap (keptAt (now (a .undo)) (now (a .image)) (a .at) (a .n)) (sym (h .hold .given .1))
 
 returns-2 : tie.Need-returns-2
