@@ -1,5 +1,5 @@
 -- A walk that sets each of the 64 slots by what it was: what holds at its head, how a turn keeps it, and that at the end each slot is set.
--- Every walk of this crate cites these. Assumes nothing.
+-- The walks of the crates above cite these. Assumes nothing.
 use Prim.Native.Nat.{ℕ, _+_, _≤_, _<_}
 use mathlib.Core.Path.{_≡_, refl, sym, ap, _∙_}
 use mathlib.Core.List.{List}
@@ -20,7 +20,7 @@ pub record Walked (turn : ℕ → Slot → Slot) (was now : List Slot) (i : ℕ)
   pub ahead : (k : ℕ) → i ≤ k → slotAt now k ≡ slotAt was k
 
 module _ {turn : ℕ → Slot → Slot} {was : List Slot} where
-  -- that an array by value has its 64 slots is told where the function starts, at `.good .0 .1 .0 .1` for a first parameter
+  -- that an array by value has its 64 slots is told where a function starts: a proof that needs it names it `all-there`
   pub walk-starts : length was ≡ slots → Walked turn was was 0
   walk-starts e = record { size = e; passed = λ k l. absurd (omega arith); ahead = λ k l. refl }
 

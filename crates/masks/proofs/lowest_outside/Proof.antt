@@ -17,6 +17,10 @@ Inv-loop set n i₀ i = (i ≤ n) × ((k : ℕ) → k < i → Outside set k → 
 abbrev μ-loop : tie.MeasureT-loop
 μ-loop set n i₀ i = n - i
 
+-- the turn that a number is tested in
+abbrev turn : tie.After-has Inv-loop μ-loop → tie.In-loop Inv-loop μ-loop
+turn c = c .before
+
 loop-holds : tie.Need-loop-holds Inv-loop μ-loop
 loop-holds c = (omega arith, below-none _)
 
@@ -25,7 +29,7 @@ has-requires c κs = search needs
 
 returns : tie.Need-returns Inv-loop μ-loop
 returns c =
-    let at = c .before .before in
+    let at = turn (c .before) in
     found-lowest (at .loop-test .taken) (sym (c .before .has .ensures) ∙ not-true _ (c .if1 .taken)) (at .before .loop .inv .1)
 
 add-i : tie.Need-add-i Inv-loop μ-loop
@@ -37,7 +41,7 @@ loop-less c = search needs
 loop-again : tie.Need-loop-again Inv-loop μ-loop
 loop-again c = (
   omega arith,
-  below-more _ _ (c .before .before .before .loop .inv .1) (clash (sym (c .before .has .ensures) ∙ not-false _ (c .if1 .left))),
+  below-more _ _ (turn (c .before) .before .loop .inv .1) (clash (sym (c .before .has .ensures) ∙ not-false _ (c .if1 .left))),
 )
 
 returns-2 : tie.Need-returns-2 Inv-loop μ-loop

@@ -19,6 +19,10 @@ Inv-loop dst₀ at src from n m j₀ dst j = (j ≤ m) × (dst ≡ splice dst₀
 abbrev μ-loop : tie.MeasureT-loop
 μ-loop dst₀ at src from n m j₀ dst j = m - j
 
+-- where the function starts, seen from the loop
+abbrev start : tie.At-loop Inv-loop μ-loop → tie.Start Inv-loop μ-loop
+start c = c .before .before .before .before .before
+
 module _ (old src : List ℕ) (at from : ℕ) (dst : List ℕ) (j : ℕ) (e : dst ≡ splice old at (part src from j)) where
   -- a turn lays one byte more
   one-more : from + j < length src → set dst (at + j) (getD src (from + j) 0) ≡ splice old at (part src from (j + 1))
@@ -59,8 +63,9 @@ loop-less c = omega arith
 
 loop-again : tie.Need-loop-again Inv-loop μ-loop
 loop-again c =
-    let a = c .before .before .before .before .before .before .before .args in
-    let i = c .before .before .loop in
+    let at = c .before .before in
+    let a = start at .args in
+    let i = at .loop in
     (omega arith, one-more (a .dst .now) (a .src .now) (a .at) (a .from) (i .dst) (i .j) (i .inv .1) (omega arith), simp length-set (omega arith))
 
 same-length : tie.Need-same-length Inv-loop μ-loop
@@ -68,7 +73,7 @@ same-length c = omega arith
 
 returns : tie.Need-returns Inv-loop μ-loop
 returns c =
-    let a = c .before .before .before .before .before .before .args in
+    let a = start (c .before) .args in
     let i = c .before .loop in
     all-laid (a .dst .now) (a .src .now) (a .at) (a .from) (i .dst) (i .j) (i .inv .1) (a .n) (omega arith)
 

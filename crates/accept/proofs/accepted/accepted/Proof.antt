@@ -8,7 +8,7 @@ use native.Mathlib.Decide.{ℕ-discrete}
 use native.Mathlib.Omega.{arith}
 use borrow.Author.Tests.{eq-eqb, ne-eqb}
 use lib.Dec.{eqb}
-use lib.ListN.{set, length-set}
+use lib.ListN.{length, set, length-set}
 use lib.Seq.{getD-set-same, getD-set-other, set-out}
 use Rattle.rules.specs.declared.Hold.{Hold}
 use Rattle.rules.specs.declared.Slot.{Slot}
@@ -20,6 +20,10 @@ use Rattle.rules.proofs.SlotsBy.{slot-by, length-by, slots-are}
 use borrow.Author.Needs.{needs}
 use Rattle.accept.proofs.accepted.accepted.Statement.{statement}
 use Rattle.accept.proofs.accepted.accepted.Tie as tie
+
+-- where the function starts it is told that the array has its 64 slots
+abbrev all-there : (c : tie.Start) → length (c .args .slots) ≡ slots
+all-there c = c .good .0 .1 .0 .1
 
 enum-told : tie.Need-enum-told
 enum-told c = search needs
@@ -46,7 +50,7 @@ slots-turned c =
     let a = c .before .args in
     let by = turnedBy (a .slots) (a .patch .block) in
     ⊎-elim (λ w. w .3 ∙ w .2 .ensures ∙ sym (ap by (w .1 .given .1)))
-    (λ w. w .2 ∙ slots-are (a .slots) (slotAt (a .slots)) (c .before .good .0 .1 .0 .1) (λ i l. refl) ∙ sym (ap by (w .1 .given .1)))
+    (λ w. w .2 ∙ slots-are (a .slots) (slotAt (a .slots)) (all-there (c .before)) (λ i l. refl) ∙ sym (ap by (w .1 .given .1)))
     (c .match .came)
 
 -- the slots with slot j set, whatever j is

@@ -1,11 +1,13 @@
 -- `accept::accepted::turned_all` meets its contract: a walk whose turn is turned, which leaves the slots of other blocks alone. Assumes nothing.
 use Prim.Native.Nat.{_≤_, _-_}
-use mathlib.Core.Path.{sym, ap, _∙_}
+use mathlib.Core.Path.{_≡_, sym, ap, _∙_}
 use mathlib.Core.Bool.{Bool}
 use native.Mathlib.Omega.{arith}
 use borrow.Author.Needs.{needs}
 use borrow.Author.Tests.{eq-eqb, ne-eqb}
+use lib.ListN.{length}
 use Rattle.rules.specs.declared.Hold.the-variants as hold
+use Rattle.rules.specs.Sizes.{slots}
 use Rattle.rules.specs.Table.{slotAt}
 use Rattle.rules.specs.Create.{turnedSlot, turned}
 use Rattle.slots.proofs.Walked.{Walked, walk-starts, walk-goes-on, walk-passes, walk-ends}
@@ -18,8 +20,16 @@ Inv-loop block next₀ i₀ next i = (i ≤ 64) × Walked (λ k. turned hold.Har
 abbrev μ-loop : tie.MeasureT-loop
 μ-loop block next₀ i₀ next i = 64 - i
 
+-- where the function starts it is told that the array has its 64 slots
+abbrev all-there : (c : tie.Start Inv-loop μ-loop) → length (c .args .slots) ≡ slots
+all-there c = c .good .0 .1 .0 .1
+
+-- the turn that reads a slot
+abbrev turn : tie.After-struct-known Inv-loop μ-loop → tie.In-loop Inv-loop μ-loop
+turn c = c .before .before
+
 loop-holds : tie.Need-loop-holds Inv-loop μ-loop
-loop-holds c = (omega arith, walk-starts (c .good .0 .1 .0 .1))
+loop-holds c = (omega arith, walk-starts (all-there c))
 
 mul-s : tie.Need-mul-s Inv-loop μ-loop
 mul-s c = search needs
@@ -35,7 +45,7 @@ loop-less c = search needs
 
 loop-again : tie.Need-loop-again Inv-loop μ-loop
 loop-again c =
-    let at = c .before .before .before .before in
+    let at = turn (c .before) .before in
     let s = slotAt (at .loop .next) (at .loop .i) in
     (omega arith, walk-passes (at .loop .inv .1) (ap (λ (here : Bool). turnedSlot here s) (ne-eqb _ _ (c .if1 .taken))))
 
@@ -57,10 +67,11 @@ loop-less-2 c = search needs
 loop-again-2 : tie.Need-loop-again-2 Inv-loop μ-loop
 loop-again-2 c =
     let test = c .before in
-    let at = test .before .before .before .before in
+    let t = turn (test .before) in
+    let at = t .before in
     let s = slotAt (at .loop .next) (at .loop .i) in (
       omega arith,
-      walk-goes-on (at .loop .inv .1) (test .before .before .before .loop-test .taken)
+      walk-goes-on (at .loop .inv .1) (t .loop-test .taken)
           (c .turned-slot .ensures ∙ sym (ap (λ (here : Bool). turnedSlot here s) (eq-eqb _ _ (test .if1 .left)))),
     )
 

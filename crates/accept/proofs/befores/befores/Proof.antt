@@ -27,6 +27,13 @@ Inv-loop block offset bytes numbers slots set₀ i₀ set i = (i ≤ 64) ×
 abbrev μ-loop : tie.MeasureT-loop
 μ-loop block offset bytes numbers slots set₀ i₀ set i = 64 - i
 
+-- where the function starts, seen from the head of the loop, and the turn that asks of a slot whether the patch follows it
+abbrev start : tie.At-loop Inv-loop μ-loop → tie.Start Inv-loop μ-loop
+start c = c .before .before .before
+
+abbrev turn : tie.After-follows Inv-loop μ-loop → tie.In-loop Inv-loop μ-loop
+turn c = c .before .before
+
 loop-holds : tie.Need-loop-holds Inv-loop μ-loop
 loop-holds c = (omega arith, sym (below-none _))
 
@@ -50,12 +57,12 @@ loop-less c = search needs
 
 loop-again : tie.Need-loop-again Inv-loop μ-loop
 loop-again c =
-    let at = c .before .before .before .before in
-    let a = at .before .before .before .args in
+    let t = turn (c .before) in
+    let at = t .before in
+    let a = start at .args in
     let p = passes (a .t1) (record { block = a .block; offset = a .offset; bytes = now (a .bytes); named = now (a .numbers) }) in (
       omega arith,
-      c .with-if .ensures ∙ with-if-below p (at .loop .i) _ _ (at .loop .inv .1) (c .before .before .before .loop-test .taken)
-          (c .before .follows .ensures),
+      c .with-if .ensures ∙ with-if-below p (at .loop .i) _ _ (at .loop .inv .1) (t .loop-test .taken) (c .before .follows .ensures),
     )
 
 returns : tie.Need-returns Inv-loop μ-loop

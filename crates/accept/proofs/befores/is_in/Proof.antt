@@ -18,6 +18,10 @@ Inv-loop n numbers k₀ k = (k ≤ length numbers) × ((j : ℕ) → j < k → g
 abbrev μ-loop : tie.MeasureT-loop
 μ-loop n numbers k₀ k = length numbers - k
 
+-- the turn that reads a number
+abbrev turn : tie.After-shared-slice-known Inv-loop μ-loop → tie.In-loop Inv-loop μ-loop
+turn c = c .before
+
 loop-holds : tie.Need-loop-holds Inv-loop μ-loop
 loop-holds c = (omega arith, below-none _)
 
@@ -29,9 +33,10 @@ shared-slice-read-if1 c = search needs
 
 returns : tie.Need-returns Inv-loop μ-loop
 returns c =
-    let at = c .before .before .before in
+    let t = turn (c .before) in
+    let at = t .before in
     let l = now (at .before .args .numbers) in
-    sym (subst (λ (x : ℕ). isIn x l ≡ true) (c .if1 .taken) (at-in l (at .loop .k) (c .before .before .loop-test .taken)))
+    sym (subst (λ (x : ℕ). isIn x l ≡ true) (c .if1 .taken) (at-in l (at .loop .k) (t .loop-test .taken)))
 
 add-k : tie.Need-add-k Inv-loop μ-loop
 add-k c = search needs
@@ -40,7 +45,7 @@ loop-less : tie.Need-loop-less Inv-loop μ-loop
 loop-less c = search needs
 
 loop-again : tie.Need-loop-again Inv-loop μ-loop
-loop-again c = (omega arith, below-more _ _ (c .before .before .before .loop .inv .1) (c .if1 .left))
+loop-again c = (omega arith, below-more _ _ (turn (c .before) .before .loop .inv .1) (c .if1 .left))
 
 returns-2 : tie.Need-returns-2 Inv-loop μ-loop
 returns-2 c =

@@ -6,6 +6,10 @@ use borrow.Author.Needs.{needs}
 use Rattle.accept.proofs.hold.holds_back.Statement.{statement}
 use Rattle.accept.proofs.hold.holds_back.Tie as tie
 
+-- where the slot is known to be in use, seen from where it is known to be of another block
+abbrev picked : tie.Else2 → tie.Else1
+picked c = c .before .before
+
 is-used-requires : tie.Need-is-used-requires
 is-used-requires c κs = search needs
 
@@ -20,7 +24,7 @@ meets-requires c κs = search needs
 
 returns-3 : tie.Need-returns-3
 returns-3 c =
-    let at = c .before .before .before in
+    let at = picked (c .before) in
     let used = sym (at .before .is-used .ensures) ∙ not-false _ (at .if1 .left) in
     decides (c .meets .result) (λ e. (used, c .before .if2 .left, yes-of (c .meets .result) (c .meets .ensures) e))
     (λ e h. no-of (c .meets .result) (c .meets .ensures) e (h .2))

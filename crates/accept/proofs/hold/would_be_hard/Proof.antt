@@ -17,6 +17,13 @@ Inv-loop block slots waiting k₀ k = (k ≤ 64) × ((j : ℕ) → j < k → Hol
 abbrev μ-loop : tie.MeasureT-loop
 μ-loop block slots waiting k₀ k = 64 - k
 
+-- the turn that asks a slot whether it holds back, and where the block's patches have been gathered
+abbrev turn : tie.After-holds-back Inv-loop μ-loop → tie.In-loop Inv-loop μ-loop
+turn c = c .before .before
+
+abbrev gathered : tie.At-loop Inv-loop μ-loop → tie.After-patches-on Inv-loop μ-loop
+gathered c = c .before
+
 patches-on-requires : tie.Need-patches-on-requires Inv-loop μ-loop
 patches-on-requires c κs = search needs
 
@@ -34,9 +41,10 @@ holds-back-requires c κs = search needs
 
 returns : tie.Need-returns Inv-loop μ-loop
 returns c =
-    let at = c .before .before .before in
-    let a = at .before .before .before .args in
-    λ hard. hard-holds-none (a .t1) (a .block) (at .before .before .patches-on .ensures .waiting) hard _ (at .loop-test .taken)
+    let t = turn (c .before) in
+    let on = gathered (t .before) in
+    let a = on .before .args in
+    λ hard. hard-holds-none (a .t1) (a .block) (on .patches-on .ensures .waiting) hard _ (t .loop-test .taken)
     (yes-of (c .before .holds-back .result) (c .before .holds-back .ensures) (c .if1 .taken))
 
 add-k : tie.Need-add-k Inv-loop μ-loop
@@ -48,13 +56,14 @@ loop-less c = search needs
 loop-again : tie.Need-loop-again Inv-loop μ-loop
 loop-again c = (
   omega arith,
-  below-more _ _ (c .before .before .before .before .loop .inv .1) (no-of (c .before .holds-back .result) (c .before .holds-back .ensures) (c .if1 .left)),
+  below-more _ _ (turn (c .before) .before .loop .inv .1) (no-of (c .before .holds-back .result) (c .before .holds-back .ensures) (c .if1 .left)),
 )
 
 returns-2 : tie.Need-returns-2 Inv-loop μ-loop
 returns-2 c =
-    let at = c .before .before in
-    none-holds-hard (at .before .args .t1) (at .before .args .block) (at .patches-on .ensures .waiting) (λ k l. c .before .loop .inv .1 k (omega arith))
+    let on = gathered (c .before) in
+    let a = on .before .args in
+    none-holds-hard (a .t1) (a .block) (on .patches-on .ensures .waiting) (λ k l. c .before .loop .inv .1 k (omega arith))
 
 pub would-be-hard-spec : {M : Type 1} → statement M
 would-be-hard-spec =

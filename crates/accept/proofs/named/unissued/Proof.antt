@@ -17,6 +17,13 @@ Inv-loop first next numbers k₀ k = (k ≤ length numbers) × ((j : ℕ) → j 
 abbrev μ-loop : tie.MeasureT-loop
 μ-loop first next numbers k₀ k = length numbers - k
 
+-- the turn that reads a number, seen from its first test and from its second
+abbrev turn : tie.After-shared-slice-known Inv-loop μ-loop → tie.In-loop Inv-loop μ-loop
+turn c = c .before
+
+abbrev turn-2 : tie.After-shared-slice-known2 Inv-loop μ-loop → tie.In-loop Inv-loop μ-loop
+turn-2 c = turn (c .before .before)
+
 loop-holds : tie.Need-loop-holds Inv-loop μ-loop
 loop-holds c = (omega arith, below-none _)
 
@@ -28,8 +35,9 @@ shared-slice-read-if1 c = search needs
 
 returns : tie.Need-returns Inv-loop μ-loop
 returns c =
-    let at = c .before .before .before in
-    (_, at-in (now (at .before .args .numbers)) (at .loop .k) (c .before .before .loop-test .taken), λ issued. omega arith)
+    let t = turn (c .before) in
+    let at = t .before in
+    (_, at-in (now (at .before .args .numbers)) (at .loop .k) (t .loop-test .taken), λ issued. omega arith)
 
 mul-if2 : tie.Need-mul-if2 Inv-loop μ-loop
 mul-if2 c = search needs
@@ -39,8 +47,9 @@ shared-slice-read-if2 c = search needs
 
 returns-2 : tie.Need-returns-2 Inv-loop μ-loop
 returns-2 c =
-    let at = c .before .before .before .before .before in
-    (_, at-in (now (at .before .args .numbers)) (at .loop .k) (c .before .before .before .before .loop-test .taken), λ issued. omega arith)
+    let t = turn-2 (c .before) in
+    let at = t .before in
+    (_, at-in (now (at .before .args .numbers)) (at .loop .k) (t .loop-test .taken), λ issued. omega arith)
 
 add-k : tie.Need-add-k Inv-loop μ-loop
 add-k c = search needs
@@ -50,7 +59,7 @@ loop-less c = search needs
 
 loop-again : tie.Need-loop-again Inv-loop μ-loop
 loop-again c =
-    let at = c .before .before .before .before .before in
+    let at = turn-2 (c .before) .before in
     (omega arith, below-more _ _ (at .loop .inv .1) (c .before .before .if1 .left, c .if2 .left))
 
 returns-3 : tie.Need-returns-3 Inv-loop μ-loop

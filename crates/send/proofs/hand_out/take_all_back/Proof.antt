@@ -23,6 +23,16 @@ Inv-loop out₀ undo left top slots numbers rest₀ i₀ out rest i =
 abbrev μ-loop : tie.MeasureT-loop
 μ-loop out₀ undo left top slots numbers rest₀ i₀ out rest i = howMany (has rest) 64
 
+-- the turn that a patch was taken back in, and where the numbers were gathered
+abbrev turn : tie.After-with Inv-loop μ-loop → tie.In-loop Inv-loop μ-loop
+turn c = c .before .before .before .before .before .before
+
+abbrev gathered : tie.At-loop Inv-loop μ-loop → tie.After-numbers-of Inv-loop μ-loop
+gathered c = c .before .before .before
+
+abbrev start : tie.At-loop Inv-loop μ-loop → tie.Start Inv-loop μ-loop
+start c = gathered c .before .before .before
+
 numbers-of-requires : tie.Need-numbers-of-requires Inv-loop μ-loop
 numbers-of-requires c κs = search needs
 
@@ -49,16 +59,6 @@ without-requires c κs = search needs
 
 highest-requires-2 : tie.Need-highest-requires-2 Inv-loop μ-loop
 highest-requires-2 c κs = search needs
-
--- the turn that a patch was taken back in, and where the numbers were gathered
-abbrev turn : tie.After-with Inv-loop μ-loop → tie.In-loop Inv-loop μ-loop
-turn c = c .before .before .before .before .before .before
-
-abbrev gathered : tie.At-loop Inv-loop μ-loop → tie.After-numbers-of Inv-loop μ-loop
-gathered c = c .before .before .before
-
-abbrev start : tie.At-loop Inv-loop μ-loop → tie.Start Inv-loop μ-loop
-start c = gathered c .before .before .before
 
 loop-less : tie.Need-loop-less Inv-loop μ-loop
 loop-less c =

@@ -10,6 +10,16 @@ use Rattle.rules.specs.Slots.{roomOf}
 use Rattle.send.proofs.hand_out.take_back.Statement.{statement}
 use Rattle.send.proofs.hand_out.take_back.Tie as tie
 
+-- where the function starts, where the room is known, and where the bytes have been copied, each seen from a later place
+abbrev start : tie.After-room-of → tie.Start
+start c = c .before .before .before
+
+abbrev roomed : tie.After-copy → tie.After-room-of
+roomed c = c .before .before .before .before
+
+abbrev copied : tie.After-slice-known2 → tie.After-copy
+copied c = c .before .before
+
 room-of-requires : tie.Need-room-of-requires
 room-of-requires c κs = search needs
 
@@ -33,11 +43,12 @@ same-length c = search needs
 
 returns : tie.Need-returns
 returns c =
-    let at = c .before .before .before .before .before .before in
-    let a = at .before .before .before .args in
+    let copy = copied c in
+    let at = roomed copy in
+    let a = start at .args in
     let e : at .room-of .result * 64 ≡ roomStart (roomOf (a .s .state)) = omega (arith, at .room-of .ensures) in
-    subst (λ (x : ℕ). c .before .before .copy .last .0 ≡ splice (now (a .out)) (a .s .offset) (part (now (a .undo)) x (a .s .len))) e
-    (c .before .before .copy .ensures)
+    subst (λ (x : ℕ). copy .copy .last .0 ≡ splice (now (a .out)) (a .s .offset) (part (now (a .undo)) x (a .s .len))) e
+    (copy .copy .ensures)
 
 pub take-back-spec : {M : Type 1} → statement M
 take-back-spec =

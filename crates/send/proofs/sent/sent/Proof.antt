@@ -1,11 +1,13 @@
 -- `send::sent::sent` meets its contract: a walk whose turn sends the slot where the set has it. Assumes nothing.
 use Prim.Native.Nat.{_≤_, _-_}
-use mathlib.Core.Path.{sym, ap, _∙_}
+use mathlib.Core.Path.{_≡_, sym, ap, _∙_}
 use mathlib.Core.Bool.{Bool}
 use native.Mathlib.Omega.{arith}
 use borrow.Author.Needs.{needs}
 use borrow.Author.Tests.{not-true, not-false}
+use lib.ListN.{length}
 use Rattle.masks.specs.Sets as Sets
+use Rattle.rules.specs.Sizes.{slots}
 use Rattle.rules.specs.Table.{slotAt}
 use Rattle.rules.specs.Write.{sentSlot, sentSlots}
 use Rattle.slots.proofs.Walked.{Walked, walk-starts, walk-goes-on, walk-passes, walk-ends}
@@ -18,8 +20,16 @@ Inv-loop set next₀ i₀ next i = (i ≤ 64) × Walked (λ k. sentSlot (Sets.ha
 abbrev μ-loop : tie.MeasureT-loop
 μ-loop set next₀ i₀ next i = 64 - i
 
+-- where the function starts it is told that the array has its 64 slots
+abbrev all-there : (c : tie.Start Inv-loop μ-loop) → length (c .args .slots) ≡ slots
+all-there c = c .good .0 .1 .0 .1
+
+-- the turn that asks whether the set has its slot
+abbrev turn : tie.After-has Inv-loop μ-loop → tie.In-loop Inv-loop μ-loop
+turn c = c .before
+
 loop-holds : tie.Need-loop-holds Inv-loop μ-loop
-loop-holds c = (omega arith, walk-starts (c .good .0 .1 .0 .1))
+loop-holds c = (omega arith, walk-starts (all-there c))
 
 has-requires : tie.Need-has-requires Inv-loop μ-loop
 has-requires c κs = search needs
@@ -32,7 +42,7 @@ loop-less c = search needs
 
 loop-again : tie.Need-loop-again Inv-loop μ-loop
 loop-again c =
-    let at = c .before .before .before in
+    let at = turn (c .before) .before in
     let s = slotAt (at .loop .next) (at .loop .i) in
     (omega arith, walk-passes (at .loop .inv .1) (ap (λ (goes : Bool). sentSlot goes s) (sym (c .before .has .ensures) ∙ not-true _ (c .if1 .taken))))
 
@@ -60,10 +70,11 @@ loop-less-2 c = search needs
 loop-again-2 : tie.Need-loop-again-2 Inv-loop μ-loop
 loop-again-2 c =
     let test = c .before .before in
-    let at = test .before .before .before in
+    let t = turn (test .before) in
+    let at = t .before in
     let s = slotAt (at .loop .next) (at .loop .i) in (
       omega arith,
-      walk-goes-on (at .loop .inv .1) (test .before .before .loop-test .taken)
+      walk-goes-on (at .loop .inv .1) (t .loop-test .taken)
           (c .sent-slot .ensures ∙ ap (λ (goes : Bool). sentSlot goes s) (sym (sym (test .before .has .ensures) ∙ not-false _ (test .if1 .left)))),
     )
 

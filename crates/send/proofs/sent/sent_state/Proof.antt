@@ -9,6 +9,10 @@ use borrow.Author.Needs.{needs}
 use Rattle.send.proofs.sent.sent_state.Statement.{statement}
 use Rattle.send.proofs.sent.sent_state.Tie as tie
 
+-- where the state is known to be waiting, hard or soft
+abbrev waiting : tie.After-known-told → tie.After-u
+waiting c = c .before
+
 -- a waiting patch goes hard or soft as it is held
 sent-held : {u : State} {h : Hold} (g : Hold) → u ≡ state.Waiting h → h ≡ g → state.InFlight (kindOf g) ≡ sentState u
 sent-held g e f = sym (ap sentState e ∙ ap (λ (x : Hold). state.InFlight (kindOf x)) f)
@@ -32,10 +36,10 @@ returns : tie.Need-returns
 returns c = search needs
 
 returns-2 : tie.Need-returns-2
-returns-2 c = sent-held _ (c .before .before .before .u .given .1) (c .enum-told2 .given .1)
+returns-2 c = sent-held _ (waiting (c .before .before) .u .given .1) (c .enum-told2 .given .1)
 
 returns-3 : tie.Need-returns-3
-returns-3 c = sent-held _ (c .before .before .before .u .given .1) (c .enum-told3 .given .1)
+returns-3 c = sent-held _ (waiting (c .before .before) .u .given .1) (c .enum-told3 .given .1)
 
 returns-4 : tie.Need-returns-4
 returns-4 c = sym (ap sentState (c .before .u2 .given .1))

@@ -1,10 +1,12 @@
 -- `settle::complete::completed` meets its contract: a walk whose turn commits the slots of the set. Assumes nothing.
 use Prim.Native.Nat.{_≤_, _-_}
-use mathlib.Core.Path.{ap, _∙_}
+use mathlib.Core.Path.{_≡_, ap, _∙_}
 use mathlib.Core.Bool.{Bool}
 use native.Mathlib.Omega.{arith}
 use borrow.Author.Needs.{needs}
+use lib.ListN.{length}
 use Rattle.masks.specs.Sets.{has}
+use Rattle.rules.specs.Sizes.{slots}
 use Rattle.rules.specs.Table.{slotAt}
 use Rattle.rules.specs.Complete.{landedSlot, landedSlots}
 use Rattle.slots.proofs.Walked.{Walked, walk-starts, walk-goes-on, walk-ends}
@@ -17,8 +19,12 @@ Inv-loop landed next₀ i₀ next i = (i ≤ 64) × Walked (λ k. landedSlot lan
 abbrev μ-loop : tie.MeasureT-loop
 μ-loop landed next₀ i₀ next i = 64 - i
 
+-- where the function starts it is told that the array has its 64 slots
+abbrev all-there : (c : tie.Start Inv-loop μ-loop) → length (c .args .slots) ≡ slots
+all-there c = c .good .0 .1 .0 .1
+
 loop-holds : tie.Need-loop-holds Inv-loop μ-loop
-loop-holds c = (omega arith, walk-starts (c .good .0 .1 .0 .1))
+loop-holds c = (omega arith, walk-starts (all-there c))
 
 mul-landed-slot : tie.Need-mul-landed-slot Inv-loop μ-loop
 mul-landed-slot c = search needs

@@ -6,6 +6,13 @@ use borrow.Author.Needs.{needs}
 use Rattle.settle.proofs.complete.landed_slot.Statement.{statement}
 use Rattle.settle.proofs.complete.landed_slot.Tie as tie
 
+-- where the slot is known to stay, and where it is known to be in use, each seen from a later place
+abbrev stays : tie.After-is-used → tie.Else1
+stays c = c .before
+
+abbrev picked : tie.After-with-befores → tie.Then2
+picked c = c .before .before
+
 free-requires : tie.Need-free-requires
 free-requires c κs = search needs
 
@@ -23,8 +30,10 @@ with-befores-requires c κs = search needs
 
 returns-2 : tie.Need-returns-2
 returns-2 c =
-    let s = c .before .before .before .before .before .args .s in
-    rw (c .before .before .before .before .if1 .left, sym (c .before .before .before .is-used .ensures) ∙ c .before .before .if2 .taken)
+    let at = picked c in
+    let kept = stays (at .before) in
+    let s = kept .before .args .s in
+    rw (kept .if1 .left, sym (at .before .is-used .ensures) ∙ at .if2 .taken)
     (c .with-befores .ensures ∙ ap (λ (m : ℕ). withBefores m s) (c .before .without .ensures))
 
 returns-3 : tie.Need-returns-3

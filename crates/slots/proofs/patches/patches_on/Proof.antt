@@ -35,6 +35,10 @@ Inv-loop block slots waiting₀ hard₀ in-flight₀ i₀ waiting hard in-flight
 abbrev μ-loop : tie.MeasureT-loop
 μ-loop block slots waiting₀ hard₀ in-flight₀ i₀ waiting hard in-flight i = 64 - i
 
+-- the turn that reads a slot
+abbrev turn : tie.After-struct-known Inv-loop μ-loop → tie.In-loop Inv-loop μ-loop
+turn c = c .before .before
+
 loop-holds : tie.Need-loop-holds Inv-loop μ-loop
 loop-holds c = record { most = omega arith; waits = sym (below-none _); hards = sym (below-none _); flies = sym (below-none _) }
 
@@ -52,7 +56,7 @@ loop-less c = search needs
 
 loop-again : tie.Need-loop-again Inv-loop μ-loop
 loop-again c =
-    let at = c .before .before .before .before in
+    let at = turn (c .before) .before in
     let a = at .before .args in
     let passed = at .loop .inv in
     let u = slotAt (a .t1) (at .loop .i) .state in
@@ -92,10 +96,11 @@ loop-again-2 c =
     let hard = c .before .before in
     let waiting = hard .before .before in
     let here = waiting .before .before in
-    let at = here .before .before .before .before in
+    let t = turn (here .before) in
+    let at = t .before in
     let a = at .before .args in
     let passed = at .loop .inv in
-    let l = here .before .before .before .loop-test .taken in
+    let l = t .loop-test .taken in
     record {
       most = omega arith;
       waits = waiting .with-if .ensures

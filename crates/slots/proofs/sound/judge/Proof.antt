@@ -42,6 +42,21 @@ Inv-loop first next slots marks₀ rooms₀ used₀ befores₀ i₀ marks rooms 
 abbrev μ-loop : tie.MeasureT-loop
 μ-loop first next slots marks₀ rooms₀ used₀ befores₀ i₀ marks rooms used befores i = 64 - i
 
+-- where the function starts, seen from the head of the loop
+abbrev start : tie.At-loop Inv-loop μ-loop → tie.Start Inv-loop μ-loop
+start c = c .before .before .before
+
+-- the turn that asks whether its slot is in use, and its head
+abbrev turn : tie.After-is-used Inv-loop μ-loop → tie.In-loop Inv-loop μ-loop
+turn c = c .before .before
+
+abbrev head : tie.After-is-used Inv-loop μ-loop → tie.At-loop Inv-loop μ-loop
+head c = turn c .before
+
+-- where the slot is known to be in use, seen from where its number is to be marked
+abbrev picked : tie.After-marks Inv-loop μ-loop → tie.Else2 Inv-loop μ-loop
+picked c = c .before .before .before
+
 header-in-range-requires : tie.Need-header-in-range-requires Inv-loop μ-loop
 header-in-range-requires c κs = search needs
 
@@ -83,9 +98,9 @@ loop-less c = search needs
 
 loop-again : tie.Need-loop-again Inv-loop μ-loop
 loop-again c =
-    let at = c .before .before .before .before in
+    let at = head (c .before) in
     let passed = at .loop .inv in
-    let ss = at .before .before .before .args .t3 in
+    let ss = start at .args .t3 in
     let free = sym (c .before .is-used .ensures) ∙ not-true _ (c .if2 .taken) in
     record {
       most = omega arith;
@@ -106,15 +121,15 @@ sound-alone-requires c κs = search needs
 
 -- past the first test the slot is in use
 in-use : (c : tie.Else2 Inv-loop μ-loop)
-    → used (c .before .before .before .before .before .before .before .args .t3) (c .before .before .before .before .loop .i) ≡ true
+    → let at = head (c .before) in used (start at .args .t3) (at .loop .i) ≡ true
 in-use c = sym (c .before .is-used .ensures) ∙ not-false _ (c .if2 .left)
 
 -- a slot of a sound table passes every test
 passes : (c : tie.Else2 Inv-loop μ-loop)
-    → let at = c .before .before .before .before in
-    let a = at .before .before .before .args in
+    → let at = head (c .before) in
+    let a = start at .args in
     Sound (tableOf (a .first) (a .next) (a .t3)) → Tested (a .first) (a .next) (a .t3) (at .loop .i)
-passes c s = sound-tested s _ (c .before .before .before .loop-test .taken)
+passes c s = sound-tested s _ (turn (c .before) .loop-test .taken)
 
 unsound-requires-2 : tie.Need-unsound-requires-2 Inv-loop μ-loop
 unsound-requires-2 c κs = search needs
@@ -128,7 +143,7 @@ returns-2 c =
     (passes at s .alone (in-use at)))
 
 mark-requires : tie.Need-mark-requires Inv-loop μ-loop
-mark-requires c κs = c .before .before .before .before .before .before .before .loop .inv .size
+mark-requires c κs = head (picked c .before) .loop .inv .size
 
 find-requires : tie.Need-find-requires Inv-loop μ-loop
 find-requires c κs = search needs
@@ -139,8 +154,10 @@ unsound-requires-3 c κs = search needs
 returns-3 : tie.Need-returns-3 Inv-loop μ-loop
 returns-3 c =
     let test = c .before in
-    let at = test .before .before .before .before .before .before .before in
-    not-sound (c .unsound3 .ensures) (λ s. passes at s .number (in-use at) _ (test .if5 .taken) (test .before .find .ensures .there (omega arith)))
+    let found = test .before in
+    let marks = found .before .before in
+    let at = picked (marks .before) in
+    not-sound (c .unsound3 .ensures) (λ s. passes at s .number (in-use at) _ (test .if5 .taken) (found .find .ensures .there (omega arith)))
 
 room-set-requires : tie.Need-room-set-requires Inv-loop μ-loop
 room-set-requires c κs = search needs
@@ -154,14 +171,13 @@ unsound-requires-4 c κs = search needs
 returns-4 : tie.Need-returns-4 Inv-loop μ-loop
 returns-4 c =
     let test = c .before in
-    let at = test .before .before .before .before .before .before .before .before in
-    let used = at .before .before in
-    let loop = used .before .before in
-    let begun = loop .before .before in
-    let ss = begun .before .args .t3 in
+    let rooms = test .before .before in
+    let marks = rooms .before .before in
+    let at = picked (marks .before) in
+    let loop = head (at .before) in
     let shared =
-    meets-shares ss (loop .loop .i) (loop .loop .inv .rooms)
-    (test .before .before .room-set .ensures) (yes-of (test .before .meets .result) (test .before .meets .ensures) (test .if6 .taken)) in
+    meets-shares (start loop .args .t3) (loop .loop .i) (loop .loop .inv .rooms)
+    (rooms .room-set .ensures) (yes-of (test .before .meets .result) (test .before .meets .ensures) (test .if6 .taken)) in
     not-sound (c .unsound4 .ensures) (λ s. passes at s .room (shared .0) (shared .1) (shared .2) (shared .3) (shared .4))
 
 joined-requires : tie.Need-joined-requires Inv-loop μ-loop
@@ -181,10 +197,9 @@ loop-less-2 c = search needs
 
 -- past the search no slot below has the number
 apart : (c : tie.Joined4 Inv-loop μ-loop)
-    → let at = c .before .before .before .before .before .before .before .before .before in
-    NumberApart (at .before .before .before .args .t3) (at .loop .i)
+    → let at = head (picked (c .before .before) .before) in NumberApart (start at .args .t3) (at .loop .i)
 apart c =
-    let at = c .before .before .before .before .before .before .before .before .before in
+    let at = head (picked (c .before .before) .before) in
     ⊎-elim
     (λ w j b h. w .1 .ensures .none-below j (omega arith) h)
     (λ w j b h. clash (ap (marked (at .loop .marks)) (sym (h .1)) ∙ at .loop .inv .marks-below j b (h .0)) (sym (c .before .mark .ensures .was) ∙ w .left))
@@ -192,22 +207,23 @@ apart c =
 
 loop-again-2 : tie.Need-loop-again-2 Inv-loop μ-loop
 loop-again-2 c =
-    let free = c .before .before .before in
+    let joined = c .before .before in
+    let free = joined .before in
     let rooms = free .before .before in
     let number = rooms .before in
     let marks = number .before in
     let alone = marks .before .before in
-    let kept = alone .before .before in
-    let at = kept .before .before .before .before in
-    let ss = at .before .before .before .args .t3 in
+    let kept = picked (marks .before) in
+    let at = head (kept .before) in
+    let ss = start at .args .t3 in
     let passed = at .loop .inv in
     let u = in-use kept in
     let sound = yes-not {P = Alone _ _ _ _} (alone .before .sound-alone .result) (alone .before .sound-alone .ensures) (alone .if3 .left) in
     record {
       most = omega arith;
       size = marks .mark .ensures .size ∙ passed .size;
-      rooms = c .before .before .joined .ensures ∙ rooms-more ss (at .loop .i) (passed .rooms) (rooms .room-set .ensures);
-      uses = c .before .with .ensures ∙ sets.with-below (used ss) (at .loop .i) _ (passed .uses) (kept .before .before .before .loop-test .taken) u;
+      rooms = joined .joined .ensures ∙ rooms-more ss (at .loop .i) (passed .rooms) (rooms .room-set .ensures);
+      uses = c .before .with .ensures ∙ sets.with-below (used ss) (at .loop .i) _ (passed .uses) (turn (kept .before) .loop-test .taken) u;
       befores-all = c .joined2 .ensures ∙ gathered-more (follows ss) (passed .befores-all) _ (λ r l. rw u);
       marks-below = below-more _ _ (λ k l v. marks .mark .ensures .kept _ (passed .marks-below k l v)) (λ v. marks .mark .ensures .is);
       tested = below-more _ _ (passed .tested) (record {
@@ -229,13 +245,11 @@ unsound-requires-5 c κs = search needs
 -- past the walk all slots are passed
 all-passed : (c : tie.After-within Inv-loop μ-loop)
     → let at = c .before .before in
-    let begun = at .before .before in
-    let a = begun .before .args in
+    let a = start at .args in
     Passed (a .first) (a .next) (a .t3) (at .loop .marks) (at .loop .rooms) (at .loop .used) (at .loop .befores) 64
 all-passed c =
     let at = c .before .before in
-    let begun = at .before .before in
-    let a = begun .before .args in
+    let a = start at .args in
     let all : at .loop .i ≡ 64 = omega arith in
     subst (Passed (a .first) (a .next) (a .t3) (at .loop .marks) (at .loop .rooms) (at .loop .used) (at .loop .befores)) all (at .loop .inv)
 
@@ -251,9 +265,9 @@ returns-6 : tie.Need-returns-6 Inv-loop μ-loop
 returns-6 c =
     let at = c .before in
     let walked = at .before .before in
-    let start = walked .before in
+    let begun = walked .before in
     let passed = all-passed at in
-    let header = yes-not {P = HeaderInRange _ _} (start .before .header-in-range .result) (start .before .header-in-range .ensures) (start .if1 .left) in
+    let header = yes-not {P = HeaderInRange _ _} (begun .before .header-in-range .result) (begun .before .header-in-range .ensures) (begun .if1 .left) in
     record {
       decides = tested-sound (passed .befores-all) (passed .uses) header (passed .tested) (sym (at .within .ensures) ∙ not-false _ (c .if7 .left));
       used-slots = passed .uses;

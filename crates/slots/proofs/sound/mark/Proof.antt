@@ -17,6 +17,10 @@ use Rattle.slots.specs.SlotSound.{marked, Marking}
 use Rattle.slots.proofs.sound.mark.Statement.{statement}
 use Rattle.slots.proofs.sound.mark.Tie as tie
 
+-- where the function starts, seen from where the mark has been put
+abbrev start : tie.After-has → tie.Start
+start c = c .before .before .before
+
 module _ (ms : List ℕ) (n v : ℕ) (is : v ≡ setOf (λ k. has (getD ms (n / 64 % 16) 0) k || eqb k (n % 64))) (l : n / 64 % 16 < length ms) where
   -- where the mark of k is looked up, it is there if it was, or if it is that of n
   looked : (k : ℕ) → k / 64 % 16 ≡ n / 64 % 16 → (has (getD ms (n / 64 % 16) 0) (k % 64) || eqb (k % 64) (n % 64)) ≡ true
@@ -65,8 +69,8 @@ has-requires c κs = search needs
 
 returns : tie.Need-returns
 returns c =
-    let m = marking (c .before .before .before .args .marks .now) (c .before .before .before .args .n) _ (c .before .with .ensures)
-    (omega (arith, c .before .before .before .pre)) in
+    let s = start c in
+    let m = marking (s .args .marks .now) (s .args .n) _ (c .before .with .ensures) (omega (arith, s .pre)) in
     record { was = c .has .ensures; size = m .size; is = m .is; kept = m .kept }
 
 pub mark-spec : {M : Type 1} → statement M

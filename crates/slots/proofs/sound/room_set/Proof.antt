@@ -13,6 +13,10 @@ use Rattle.rules.specs.Slots.{hasRoom}
 use Rattle.slots.proofs.sound.room_set.Statement.{statement}
 use Rattle.slots.proofs.sound.room_set.Tie as tie
 
+-- where the state is known to be waiting, hard or soft
+abbrev waiting : tie.After-known-told → tie.After-u
+waiting c = c .before
+
 -- where no room passes, the set is empty
 none-of : (p : ℕ → Bool) → ((r : ℕ) → p r ≡ false) → 0 ≡ setOf p
 none-of p f = sym (no-member (setOf p) (set-lt p) (λ r l. has-set p r l ∙ f r))
@@ -43,7 +47,7 @@ returns c = none-of _ (λ r. ap (λ (u : State). hasRoom u r) (c .enum-told .giv
 
 returns-2 : tie.Need-returns-2
 returns-2 c =
-    none-of _ (λ r. ap (λ (u : State). hasRoom u r) (c .before .before .before .u .given .1)
+    none-of _ (λ r. ap (λ (u : State). hasRoom u r) (waiting (c .before .before) .u .given .1)
     ∙ ap (λ (h : Hold). hasRoom (state.Waiting h) r) (c .enum-told2 .given .1))
 
 returns-3 : tie.Need-returns-3
@@ -51,7 +55,7 @@ returns-3 c =
     let at = c .before .before in
     c .with .ensures
     ∙ set-ext _ _ (λ r l. ap (λ (b : Bool). b || eqb r (at .h .given .0 .0)) (has-none r)
-    ∙ sym (ap (λ (u : State). hasRoom u r) (at .before .before .before .u .given .1) ∙ ap (λ (h : Hold). hasRoom (state.Waiting h) r) (at .h .given .1)))
+    ∙ sym (ap (λ (u : State). hasRoom u r) (waiting (at .before .before) .u .given .1) ∙ ap (λ (h : Hold). hasRoom (state.Waiting h) r) (at .h .given .1)))
 
 returns-4 : tie.Need-returns-4
 returns-4 c = none-of _ (λ r. ap (λ (u : State). hasRoom u r) (c .enum-told3 .given .1))

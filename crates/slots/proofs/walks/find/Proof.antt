@@ -16,6 +16,10 @@ Inv-loop number slots i₀ i = (i ≤ 64) × ((k : ℕ) → k < i → Carries sl
 abbrev μ-loop : tie.MeasureT-loop
 μ-loop number slots i₀ i = 64 - i
 
+-- the turn that reads a slot
+abbrev turn : tie.After-struct-known Inv-loop μ-loop → tie.In-loop Inv-loop μ-loop
+turn c = c .before .before
+
 loop-holds : tie.Need-loop-holds Inv-loop μ-loop
 loop-holds c = (omega arith, below-none _)
 
@@ -30,11 +34,13 @@ is-used-requires c κs = search needs
 
 returns : tie.Need-returns Inv-loop μ-loop
 returns c =
-    let l = c .before .before .before .before .before .loop-test .taken in
+    let same = c .before .before in
+    let at = turn (same .before) in
+    let l = at .loop-test .taken in
     record {
       most = omega arith;
-      there = λ h. (sym (c .before .is-used .ensures) ∙ c .if2 .taken, c .before .before .if1 .taken);
-      none-below = c .before .before .before .before .before .before .loop .inv .1;
+      there = λ h. (sym (c .before .is-used .ensures) ∙ c .if2 .taken, same .if1 .taken);
+      none-below = at .before .loop .inv .1;
     }
 
 add-i : tie.Need-add-i Inv-loop μ-loop
@@ -46,7 +52,7 @@ loop-less c = search needs
 loop-again : tie.Need-loop-again Inv-loop μ-loop
 loop-again c = (
   omega arith,
-  below-more _ _ (c .before .before .before .before .loop .inv .1)
+  below-more _ _ (turn (c .before) .before .loop .inv .1)
       (⊎-elim (λ w h. clash (h .0) (sym (w .1 .ensures) ∙ w .2 .left)) (λ w h. w .left (h .1)) (c .if1 .came)),
 )
 
