@@ -28,7 +28,8 @@ use Rattle.rules.specs.Refusals.{First, openCases}
 use Rattle.rules.specs.Calls.{plainNumber, createNumber, writeNumber, Opening, Opens, Creation, Creates, Writing, Writes, Completion, Completes, sentSet}
 use Rattle.rules.proofs.Cases.{passed}
 use Rattle.rules.proofs.SlotsBy.{slot-by, length-by}
-use Rattle.rules.proofs.Granted.{CreatePassed, create-passed}
+use Rattle.rules.specs.Passed.{CreatePassed}
+use Rattle.rules.proofs.Granted.{create-passed}
 use Rattle.board.specs.Layout.{numberAt, stateOf, slotIn, slotStart, tableIn, IsTable, inBytes, tagOf, slotBytes, slotsBytes, bytesOf, SlotFits}
 use Rattle.board.specs.Layout.{TableFits}
 use Rattle.board.proofs.Numbers.{number-4, number-8}

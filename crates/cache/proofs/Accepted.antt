@@ -17,7 +17,8 @@ use Rattle.masks.specs.Lowest.{Lowest}
 use Rattle.rules.specs.Create.{Change, FreeSlot, HoldOf, accepted, changed, kept}
 use Rattle.rules.specs.Refusals.{Case, case, First, WrongSize, Unsound, NoBlock, WrongLength, PastEnd, NamesUnissued, NoSlot, NoRoom, createCases}
 use Rattle.rules.specs.Calls.{Creates, createRefused, createGranted}
-use Rattle.rules.proofs.Granted.{CreatePassed, issued-holds}
+use Rattle.rules.specs.Passed.{CreatePassed}
+use Rattle.rules.proofs.Granted.{issued-holds}
 use Rattle.rules.proofs.Cases.{holds, passes, none-holds}
 use Rattle.rules.proofs.Outcomes.{refuses, grants}
 use Rattle.cache.specs.Judged.{CreateJudged, keptAt}

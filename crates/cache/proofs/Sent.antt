@@ -14,7 +14,8 @@ use Rattle.rules.specs.Calls.{Writes, writeRefused, writeGranted, Completes, co
 use Rattle.rules.proofs.Largest.{largest-empty}
 use Rattle.rules.proofs.Cases.{holds, passes, none-holds}
 use Rattle.rules.proofs.Outcomes.{refuses, grants}
-use Rattle.cache.specs.Judged.{Judged, WriteReady, WriteJudged}
+use Rattle.rules.specs.Passed.{WriteReady}
+use Rattle.cache.specs.Judged.{Judged, WriteJudged}
 
 module _ (t : Table) (b : ℕ) where
   pub complete-unsound : (Sound t → ⊥) → Completes t b (completeRefused t 2)
@@ -68,11 +69,11 @@ module _ (t : Table) (image undo block : List ℕ) (b : ℕ) where
     late : {k : ℕ} → First (case 13 (OnlyEmpty (t .slots) b) ∷ []) k → First (writeCases t image undo block b) k
     late f =
         passes (sizes (record { image-whole = r .image-whole; undo-whole = r .undo-whole; block-whole = r .block-whole }))
-        (passes (λ n. n (r .sound)) (passes (λ m. omega (arith, r .is-block)) (passes (r .none-flies) (passes (λ n. n (r .some-waits)) f))))
+        (passes (λ n. n (r .sound)) (passes (λ m. omega (arith, r .is-block)) (passes (r .none-flies) (passes (λ n. n (r .some-wait)) f))))
 
     pub write-only-empty : Largest (t .slots) b 0 → Writes t image undo block b (writeRefused t image undo block 13)
     write-only-empty g =
-        refuses 13 (late (holds (r .some-waits, largest-empty g))) refl (λ e. omega arith)
+        refuses 13 (late (holds (r .some-wait, largest-empty g))) refl (λ e. omega arith)
 
     -- the table and the block are what the code made
     pub write-granted : (s : ℕ) → (s ≡ 0 → ⊥) → Largest (t .slots) b s → (t′ : Table) (block′ : List ℕ) → t′ ≡ sent t s → block′ ≡ handedOut t b s image undo

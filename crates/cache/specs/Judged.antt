@@ -12,7 +12,7 @@ use Rattle.rules.specs.Sizes.{roomStart, blocks, blockBytes, imageBytes, undoBy
 use Rattle.rules.specs.Table.{Table, Sound, withSlots, withNext}
 use Rattle.rules.specs.Create.{Change, acceptedSlots}
 use Rattle.rules.specs.Refusals.{Case, First, Flies, Waits, createCases, writeCases}
-use Rattle.rules.proofs.Granted.{CreatePassed}
+use Rattle.rules.specs.Passed.{CreatePassed, WriteReady}
 
 -- k is 0 and the call is ready to go on, or it is the first of the call's cases that holds
 pub record Judged (cases : List Case) (Ready : Type 0) (k : ℕ) : Type 0 where
@@ -22,16 +22,6 @@ pub record Judged (cases : List Case) (Ready : Type 0) (k : ℕ) : Type 0 where
 -- the refusals 1 to 8 of a create are judged
 abbrev pub CreateJudged : Table → List ℕ → List ℕ → Change → ℕ → Type 0
 CreateJudged t image undo c = Judged (createCases t image undo c) (CreatePassed t image undo c)
-
--- none of 1 to 12 holds of a write
-pub record WriteReady (t : Table) (image undo block : List ℕ) (b : ℕ) : Type 0 where
-  pub image-whole : length image ≡ imageBytes
-  pub undo-whole : length undo ≡ undoBytes
-  pub block-whole : length block ≡ blockBytes
-  pub sound : Sound t
-  pub is-block : b < blocks
-  pub none-flies : Flies (t .slots) b → ⊥
-  pub some-waits : Waits (t .slots) b
 
 -- the refusals 1 to 12 of a write are judged
 abbrev pub WriteJudged : Table → List ℕ → List ℕ → List ℕ → ℕ → ℕ → Type 0

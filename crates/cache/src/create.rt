@@ -3,6 +3,7 @@ ghost use Prim.Native.Nat.{_+_, _≤_, _<_};
 ghost use lib.ListN.{length};
 ghost use mathlib.Core.Path.{_≡_};
 ghost use Rattle.ground.specs.Decides.{Decides};
+ghost use Rattle.rules.specs.Sizes.{mostBytes};
 ghost use Rattle.rules.specs.Table.{Sound};
 ghost use Rattle.rules.specs.Create.{patch};
 ghost use Rattle.rules.specs.Calls.{Creates};
@@ -102,7 +103,7 @@ impl Table {
 
     // The new patch: the number next, its block and range, waiting, with its befores.
     fn patch(self, block: u32, offset: u32, bytes: &[u8], named: &[u32], hold: Hold) -> Slot
-        requires { ⌜ length (now bytes) ≤ 64 ⌝ }
+        requires { ⌜ length (now bytes) ≤ mostBytes ⌝ }
         ensures { λ r. ⌜ r ≡ patch (seen self) (changeOf block offset (now (bytes .entry)) (now (named .entry))) hold ⌝ }
     {
         let slots = self.slots;

@@ -12,7 +12,8 @@ use borrow.Author.Tests.{not-true, eq-eqb, eqb-true}
 use Rattle.ground.proofs.Decided.{clash, and-true}
 use Rattle.cut.proofs.Facts.{by-block, newer-in, older-in, covers-block, same-on-block}
 use Rattle.cut.proofs.TakeBack.{NoneOver, kept-fewer, take-gives-rest}
-use Rattle.cut.proofs.Invariant.{Held, done, waits, together, Invariant, carried, carried-same, held-waiting, held-together, waits-not-done, waits-not-off, off-not-done}
+use Rattle.cut.proofs.Invariant.{Held, done, waits, together, Invariant, carried, carried-same, held-waiting, held-together}
+use Rattle.cut.proofs.Invariant.{waits-not-done, waits-not-off, off-not-done}
 use Rattle.cut.proofs.Order.{must-before}
 
 is-waiting : (r : Stage) → isWaiting r ≡ true → r ≡ waiting

@@ -59,7 +59,7 @@ module _ (h : History) (g : Good h) where
       let n = g .some w (mem-left (h .landed) w m) in
       let a = g .sent w (mem-left (h .landed) w m) (n .0) (n .1) in
       let out = sym (g .out (a .0) (a .1)) ∙ ap (λ (x : ℕ). sentIn x (h .inFlight)) (a .2) ∙ noted-sent (n .0) (h .inFlight) w m (n .1) in
-      none-out h g b (write-passed p z .none-flies) (a .0) (a .1) (a .3 ∙ e) (out-flies (wordOf ss (a .0 .number)) out)
+      none-out h g b (write-passed p z .ready .none-flies) (a .0) (a .1) (a .3 ∙ e) (out-flies (wordOf ss (a .0 .number)) out)
 
   -- ---- what ask says, and the notes
 

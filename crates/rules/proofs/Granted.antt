@@ -1,5 +1,5 @@
--- What a call has found when none of its refusals holds: one record of named facts for create and one for write, each obtained once from the
--- grant. A proof that goes on from a grant names the fact that it needs, and counts no refusals.
+-- What a granted create or write has passed (specs/Passed.antt), obtained once from the grant. A proof that goes on from a grant names the fact that it
+-- needs, and counts no refusals.
 use Prim.Native.Nat.{ℕ, _+_, _≤_, _<_}
 use mathlib.Core.Path.{_≡_, refl, subst}
 use mathlib.Core.Bool.{true, false}
@@ -16,6 +16,7 @@ use Rattle.rules.specs.Sizes.{blocks, blockBytes, imageBytes, undoBytes,
 use Rattle.rules.specs.Table.{Table, used, waitsOn, Sound, Issued}
 use Rattle.rules.specs.Create.{Change, isIn}
 use Rattle.rules.specs.Write.{MayGo, Largest}
+use Rattle.rules.specs.Passed.{NamesIssued, CreatePassed, WritePassed}
 use Rattle.rules.specs.Refusals.{First, Flies, Waits, OnlyEmpty, NamesUnissued, createCases, writeCases}
 use Rattle.rules.specs.Calls.{Creation, Creates, createNumber, Writing, Writes, writeNumber}
 use Rattle.rules.proofs.Cases.{passed}
@@ -53,10 +54,6 @@ sound-holds t n = record {
   rooms-differ = λ i j r l m h k. equal (λ d. n (λ s. d (s .rooms-differ i j r l m h k)));
 }
 
--- every named number was issued
-abbrev pub NamesIssued : Table → Change → Type 0
-NamesIssued t c = (n : ℕ) → isIn n (c .named) ≡ true → Issued t n
-
 pub issued-holds : (t : Table) (c : Change) → (NamesUnissued t c → ⊥) → NamesIssued t c
 issued-holds t c f n e = (at-most (λ d. f (n, e, λ i. d (i .0))), below (λ d. f (n, e, λ i. d (i .1))))
 
@@ -64,19 +61,6 @@ waits-holds : (ss : List Slot) (b : ℕ) → ((Waits ss b → ⊥) → ⊥) → 
 waits-holds ss b f = set-some (waitsOn ss b) refl (λ z. f (λ w. set-none (waitsOn ss b) refl z (w .0) (w .1) (w .2)))
 
 -- ---- create
-
--- none of the refusals 1 to 8 holds of a create; 9 and 10 are the slot and the room that the grant itself names
-pub record CreatePassed (t : Table) (image undo : List ℕ) (c : Change) : Type 0 where
-  pub image-whole : length image ≡ imageBytes
-  pub undo-whole : length undo ≡ undoBytes
-  pub sound : Sound t
-  pub is-block : c .block < blocks
-  pub len-least : 1 ≤ length (c .bytes)
-  pub len-most : length (c .bytes) ≤ mostBytes
-  pub ends : c .offset + length (c .bytes) ≤ blockBytes
-  pub few-named : length (c .named) ≤ mostNamed
-  pub issued : NamesIssued t c
-  pub last : t .next ≤ lastNumber
 
 create-facts : (t : Table) (image undo : List ℕ) (c : Change) → First (createCases t image undo c) 0 → CreatePassed t image undo c
 create-facts t image undo c f =
@@ -110,17 +94,6 @@ create-passed {t} {image} {undo} {c} p z = create-facts t image undo c (subst (F
 
 -- ---- write
 
--- none of the refusals of a write holds
-pub record WritePassed (t : Table) (image undo block : List ℕ) (b : ℕ) : Type 0 where
-  pub image-whole : length image ≡ imageBytes
-  pub undo-whole : length undo ≡ undoBytes
-  pub block-whole : length block ≡ blockBytes
-  pub sound : Sound t
-  pub is-block : b < blocks
-  pub none-flies : Flies (t .slots) b → ⊥
-  pub some-wait : Waits (t .slots) b
-  pub some-goes : (s : ℕ) → Largest (t .slots) b s → (i : ℕ) × (has s i ≡ true)
-
 -- a largest set has a member where not only the empty one may go
 member : (ss : List Slot) (b s : ℕ) → Waits ss b → (OnlyEmpty ss b → ⊥) → Largest ss b s → (i : ℕ) × (has s i ≡ true)
 member ss b s w e l =
@@ -141,13 +114,15 @@ write-facts t image undo block b f =
     let c6 = passed (λ e. omega arith) (c5 .1) in
     let waits = waits-holds (t .slots) b (c5 .0) in
     record {
-      image-whole = equal (λ d. c1 .0 (inl d));
-      undo-whole = equal (λ d. c1 .0 (inr (inl d)));
-      block-whole = equal (λ d. c1 .0 (inr (inr d)));
-      sound = sound-holds t (c2 .0);
-      is-block = omega (arith, c3 .0);
-      none-flies = c4 .0;
-      some-wait = waits;
+      ready = record {
+        image-whole = equal (λ d. c1 .0 (inl d));
+        undo-whole = equal (λ d. c1 .0 (inr (inl d)));
+        block-whole = equal (λ d. c1 .0 (inr (inr d)));
+        sound = sound-holds t (c2 .0);
+        is-block = omega (arith, c3 .0);
+        none-flies = c4 .0;
+        some-wait = waits;
+      };
       some-goes = λ s. member (t .slots) b s waits (c6 .0);
     }
 

@@ -28,7 +28,7 @@ use Rattle.rules.specs.Complete.{withoutBefores, landing, completedSlots
 use Rattle.rules.proofs.After.{accepted-at, sent-at, completed-at, befores-at}
 use Rattle.rules.proofs.SlotsBy.{slot-by}
 use Rattle.rules.proofs.Words.{has-room-used, room-is, turned-used, turned-room, sent-used, sent-room}
-use Rattle.rules.proofs.Granted.{CreatePassed}
+use Rattle.rules.specs.Passed.{CreatePassed}
 
 -- the slot n is the slot s, but for its state, where it has no new room, and for befores that it has lost
 pub record Like (n s : Slot) : Type 0 where

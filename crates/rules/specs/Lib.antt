@@ -10,5 +10,6 @@ pub mod Complete
 pub mod Ask
 pub mod Count
 pub mod Refusals
+pub mod Passed
 pub mod Calls
 pub mod Rows

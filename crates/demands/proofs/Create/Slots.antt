@@ -21,7 +21,7 @@ use Rattle.rules.specs.Create as create
 use Rattle.masks.specs.Lowest.{Lowest}
 use Rattle.rules.specs.Create.{FreeSlot, HoldOf, patch, turned, turnedState, turnedSlot, acceptedSlot, acceptedSlots, accepted, changed, kept}
 use Rattle.rules.proofs.After.{accepted-at}
-use Rattle.rules.proofs.Granted.{CreatePassed}
+use Rattle.rules.specs.Passed.{CreatePassed}
 use Rattle.rules.proofs.StaysSound.{Like, like-self, turned-like, accepted-sound}
 use Rattle.cut.specs.Changes.{Logged}
 use Rattle.cut.specs.World.{waiting}

@@ -74,7 +74,7 @@ module _ {h : History} {b s : ℕ} (d : Sending h b s) where
 
     old-length : length old ≡ slotAt ss j .len
     unfolding old
-    old-length = length-part (h .undo) (roomStart room) (slotAt ss j .len) (omega (arith, room-low, short, d .passed .undo-whole))
+    old-length = length-part (h .undo) (roomStart room) (slotAt ss j .len) (omega (arith, room-low, short, d .passed .ready .undo-whole))
 
     in-range : (i : ℕ) → covers (plain a) b i ≡ true → getD (splice xs (slotAt ss j .offset) old) i 0 ≡ oldByte ss (h .undo) (plain a) i
     unfolding old room
@@ -203,8 +203,8 @@ module _ {h : History} {b s : ℕ} (d : Sending h b s) where
 
   pub whole-writ : Whole (writ d)
   whole-writ = record {
-    is-block = d .passed .is-block;
-    size = length-handed-out (h .table) b s (h .image) (h .undo) (d .good .image-whole) (d .passed .is-block);
+    is-block = d .passed .ready .is-block;
+    size = length-handed-out (h .table) b s (h .image) (h .undo) (d .good .image-whole) (d .passed .ready .is-block);
   }
 
   -- the block handed out is the working one with what is left behind taken back, newest first
@@ -214,10 +214,10 @@ module _ {h : History} {b s : ℕ} (d : Sending h b s) where
   bytes i = go (decLt i blockBytes)
     where
       size : length (part (h .image) (blockStart b) blockBytes) ≡ blockBytes
-      size = length-part (h .image) (blockStart b) blockBytes (omega (arith, d .good .image-whole, d .passed .is-block))
+      size = length-part (h .image) (blockStart b) blockBytes (omega (arith, d .good .image-whole, d .passed .ready .is-block))
 
       looks : Looks (part (h .image) (blockStart b) blockBytes) (view (h .image))
-      looks i l = part-in (h .image) (blockStart b) blockBytes i l ∙ sym (view-in (h .image) b i (d .passed .is-block) l)
+      looks i l = part-in (h .image) (blockStart b) blockBytes i l ∙ sym (view-in (h .image) b i (d .passed .ready .is-block) l)
 
       go : Dec (i < blockBytes) → view (written (writ d ∷ (h .inFlight ++ h .landed)) (h .opening)) b i
           ≡ takeBack (isLeft d) (oldByte ss (h .undo)) (map plain (h .accepted)) (view (h .image)) b i

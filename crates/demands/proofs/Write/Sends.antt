@@ -62,7 +62,7 @@ module _ {h : History} {b s : ℕ} (d : Sending h b s) where
     goes = on-log (h .accepted) (λ x. goes d x ≡ true → (wordOf ss (x .number) ≡ waiting) × (x .block ≡ b)) (members d);
     goTied = λ y x my mx e t. inr (go-tied (y .number) (x .number) e t);
     leftKept = on-log (h .accepted) (λ x. left b (goes d) (world h) x ≡ true → roomedOf ss (x .number) ≡ true) (left-roomed d);
-    free = on-log (h .accepted) (λ x. x .block ≡ b → wordOf ss (x .number) ≢ inFlight) (none-out h (d .good) b (d .passed .none-flies));
+    free = on-log (h .accepted) (λ x. x .block ≡ b → wordOf ss (x .number) ≢ inFlight) (none-out h (d .good) b (d .passed .ready .none-flies));
     bytes = bytes d;
     others = others;
     goState = λ x m e. go-state d (x .number) e;

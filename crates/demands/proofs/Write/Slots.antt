@@ -15,7 +15,7 @@ use Rattle.rules.specs.Slots.{isWaiting}
 use Rattle.rules.specs.Table.{slotAt, Sound}
 use Rattle.rules.specs.Write.{MayGo, Largest, handedOut, sentState, sentSlot, sentSlots, sent}
 use Rattle.rules.proofs.After.{sent-at}
-use Rattle.rules.proofs.Granted.{WritePassed}
+use Rattle.rules.specs.Passed.{WritePassed}
 use Rattle.rules.proofs.StaysSound.{Like, sent-like, sent-sound}
 use Rattle.cut.specs.Changes.{Logged}
 use Rattle.cut.specs.World.{waiting, inFlight}

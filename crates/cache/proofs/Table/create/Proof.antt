@@ -13,7 +13,7 @@ use Rattle.masks.proofs.Laws.{has-of}
 use Rattle.rules.specs.declared.Hold.{Hold}
 use Rattle.rules.specs.declared.Slot.{Slot}
 use Rattle.rules.specs.Table.{used}
-use Rattle.rules.proofs.Granted.{CreatePassed}
+use Rattle.rules.specs.Passed.{CreatePassed}
 use Rattle.masks.specs.Lowest.{Lowest}
 use Rattle.rules.specs.Create.{Change, FreeSlot, HoldOf, accepted}
 use Rattle.slots.specs.Walks.{takenRooms}

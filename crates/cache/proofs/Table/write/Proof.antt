@@ -11,7 +11,7 @@ use Rattle.rules.proofs.Rounds.{searched-largest}
 use Rattle.slots.specs.Walks.{PatchesOn}
 use Rattle.send.proofs.Handed.{handed-out}
 use Rattle.cache.specs.Seen.{seen}
-use Rattle.cache.specs.Judged.{WriteReady}
+use Rattle.rules.specs.Passed.{WriteReady}
 use Rattle.cache.proofs.Sent.{write-refused, write-only-empty, write-granted}
 use Rattle.cache.proofs.Table.write.Statement.{statement}
 use Rattle.cache.proofs.Table.write.Tie as tie

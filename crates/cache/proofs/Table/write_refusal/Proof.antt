@@ -78,7 +78,7 @@ returns-8 c =
         sound = sound-here (f .before);
         is-block = omega (arith, f .if5 .left);
         none-flies = none-flies (on-here f) (g .if6 .left);
-        some-waits = some-waits (on-here f) (c .if7 .left);
+        some-wait = some-waits (on-here f) (c .if7 .left);
       };
     }
 
