@@ -1,7 +1,7 @@
 // The befores of a new patch: the slots of the named numbers, and those whose bytes it shares.
 ghost use mathlib.Core.Path.{_≡_};
 ghost use Prim.Native.Nat.{_<_, _^_};
-ghost use Rattle.rules.specs.Create.{isIn, shares, befores};
+ghost use Rattle.rules.specs.Create.{changeOf, isIn, shares, befores};
 ghost use Rattle.accept.specs.OneSlot.{follows};
 use rules::Slot;
 use rules::sizes::SLOTS;
@@ -38,7 +38,7 @@ fn shares(o: u32, l: u32, p: u32, m: usize) -> bool
 
 // Whether the new patch must follow the patch of slot s.
 fn follows(s: Slot, block: u32, offset: u32, bytes: &[u8], numbers: &[u32]) -> bool
-    ensures { λ r. ⌜ r ≡ follows s (record { block = block; offset = offset; bytes = now (bytes .entry); named = now (numbers .entry) }) ⌝ }
+    ensures { λ r. ⌜ r ≡ follows s (changeOf block offset (now (bytes .entry)) (now (numbers .entry))) ⌝ }
 {
     let u = s.state;
     if !is_used(u) {
@@ -54,7 +54,7 @@ fn follows(s: Slot, block: u32, offset: u32, bytes: &[u8], numbers: &[u32]) -> b
 }
 
 pub fn befores(slots: [Slot; SLOTS], block: u32, offset: u32, bytes: &[u8], numbers: &[u32]) -> u64
-    ensures { λ r. ⌜ r ≡ befores slots (record { block = block; offset = offset; bytes = now (bytes .entry); named = now (numbers .entry) }) ⌝ }
+    ensures { λ r. ⌜ r ≡ befores slots (changeOf block offset (now (bytes .entry)) (now (numbers .entry))) ⌝ }
 {
     let mut set: u64 = 0;
     for i in 0..SLOTS {

@@ -3,7 +3,7 @@
 ghost use Prim.Native.Nat.{_<_};
 ghost use mathlib.Core.Path.{_≡_};
 ghost use mathlib.Core.Option.{some};
-ghost use Rattle.cache.specs.Seen.{changeOf};
+ghost use Rattle.rules.specs.Create.{changeOf};
 ghost use Rattle.board.specs.Calls.{OpenCall, CreateCall, WriteCall, CompleteCall, AskCall, CountCall, holdNumber};
 use crate::from_bytes::is_table;
 use crate::from_bytes::table_in;

@@ -1,8 +1,7 @@
--- The code's table, what create is asked and what the calls return, as the rules have them: field for field.
+-- The code's table and what its calls return, as the rules have them: field for field.
 use mathlib.Core.List.{List}
 use Prim.Native.Nat.{ℕ}
 use Rattle.rules.specs.Table as rules
-use Rattle.rules.specs.Create.{Change}
 use Rattle.rules.specs.Calls.{Opening, Creation, Writing, Completion}
 use Rattle.cache.specs.declared.Table.{Table}
 use Rattle.cache.specs.declared.Opened.{Opened}
@@ -12,10 +11,6 @@ use Rattle.cache.specs.declared.Completed.{Completed}
 
 abbrev pub seen : Table → rules.Table
 seen t = rules.tableOf (t .first) (t .next) (t .slots)
-
--- create's arguments
-abbrev pub changeOf : ℕ → ℕ → List ℕ → List ℕ → Change
-changeOf block offset bytes named = record { block = block; offset = offset; bytes = bytes; named = named }
 
 abbrev pub opening : Opened → Opening
 opening r = record { answer = r .answer; table = seen (r .table) }

@@ -24,6 +24,9 @@ pub record Change : Type 0 where
   pub bytes : List ℕ
   pub named : List ℕ
 
+abbrev pub changeOf : ℕ → ℕ → List ℕ → List ℕ → Change
+changeOf block offset bytes named = record { block = block; offset = offset; bytes = bytes; named = named }
+
 -- slot i is free
 abbrev pub FreeSlot : List Slot → ℕ → Type 0
 FreeSlot ss i = used ss i ≡ false

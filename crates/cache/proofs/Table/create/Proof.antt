@@ -20,7 +20,8 @@ use Rattle.slots.specs.Walks.{takenRooms}
 use Rattle.masks.specs.Lowest.{LowestOr, Outside}
 use Rattle.accept.proofs.FreeRooms.{Means, held-means}
 use Rattle.masks.proofs.Lowest.{lowest-same}
-use Rattle.cache.specs.Seen.{seen, changeOf}
+use Rattle.rules.specs.Create.{changeOf}
+use Rattle.cache.specs.Seen.{seen}
 use Rattle.cache.specs.Judged.{withPatch}
 use Rattle.cache.proofs.Accepted.{create-refused, create-no-slot, create-no-room, create-granted, image-made, undo-made}
 use Rattle.cache.proofs.Table.create.Statement.{statement}

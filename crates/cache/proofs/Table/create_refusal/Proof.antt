@@ -6,7 +6,8 @@ use denote.Ref.{now}
 use Rattle.ground.proofs.Decided.{yes-of, no-of, yes-not, no-not}
 use Rattle.rules.specs.Table.{Sound}
 use Rattle.rules.specs.Create.{Change}
-use Rattle.cache.specs.Seen.{seen, changeOf}
+use Rattle.rules.specs.Create.{changeOf}
+use Rattle.cache.specs.Seen.{seen}
 use Rattle.cache.proofs.Accepted.{CreateSized, create-wrong-size, create-unsound, create-no-block, create-wrong-length, create-past-end}
 use Rattle.cache.proofs.Accepted.{Past5, create-many-named, create-unissued, create-no-number, create-ready}
 use Rattle.cache.proofs.Table.create_refusal.Statement.{statement}

@@ -5,7 +5,8 @@ use borrow.Author.Needs.{needs}
 use denote.Ref.{now}
 use Rattle.rules.specs.Slots.{withBefores}
 use Rattle.rules.specs.Create.{patch}
-use Rattle.cache.specs.Seen.{seen, changeOf}
+use Rattle.rules.specs.Create.{changeOf}
+use Rattle.cache.specs.Seen.{seen}
 use Rattle.cache.proofs.Table.patch.Statement.{statement}
 use Rattle.cache.proofs.Table.patch.Tie as tie
 
