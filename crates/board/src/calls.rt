@@ -9,7 +9,7 @@ use crate::from_bytes::is_table;
 use crate::from_bytes::table_in;
 use crate::layout::TABLE_BYTES;
 use crate::to_bytes::store;
-use cache::Table;
+use cache::types::Table;
 use rules::Answer;
 use rules::AskAnswer;
 use rules::CountAnswer;

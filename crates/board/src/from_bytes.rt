@@ -6,7 +6,7 @@ ghost use Rattle.ground.specs.Decides.{Decides};
 ghost use Rattle.cache.specs.Seen.{seen};
 ghost use Rattle.board.specs.Layout.{tableBytes, numberAt, stateOf, slotIn, tableIn, tableRead, IsTable};
 use crate::layout::TABLE_BYTES;
-use cache::Table;
+use cache::types::Table;
 use rules::Hold;
 use rules::Kind;
 use rules::Slot;

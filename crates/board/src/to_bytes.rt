@@ -7,7 +7,7 @@ ghost use Rattle.spans.specs.Spans.{splice};
 ghost use Rattle.cache.specs.Seen.{seen};
 ghost use Rattle.board.specs.Layout.{inBytes, tagOf, slotBytes, tableStored};
 use crate::layout::TABLE_BYTES;
-use cache::Table;
+use cache::types::Table;
 use rules::Hold;
 use rules::Kind;
 use rules::Slot;

@@ -3,11 +3,11 @@ use mathlib.Core.List.{List}
 use Prim.Native.Nat.{ℕ}
 use Rattle.rules.specs.Table as rules
 use Rattle.rules.specs.Calls.{Opening, Creation, Writing, Completion}
-use Rattle.cache.specs.declared.Table.{Table}
-use Rattle.cache.specs.declared.Opened.{Opened}
-use Rattle.cache.specs.declared.Created.{Created}
-use Rattle.cache.specs.declared.Written.{Written}
-use Rattle.cache.specs.declared.Completed.{Completed}
+use Rattle.cache.specs.declared.types.Table.{Table}
+use Rattle.cache.specs.declared.types.Opened.{Opened}
+use Rattle.cache.specs.declared.types.Created.{Created}
+use Rattle.cache.specs.declared.types.Written.{Written}
+use Rattle.cache.specs.declared.types.Completed.{Completed}
 
 abbrev pub seen : Table → rules.Table
 seen t = rules.tableOf (t .first) (t .next) (t .slots)

@@ -1,7 +1,7 @@
 // Ask and count: they look and change nothing.
 ghost use Rattle.rules.specs.Calls.{Asks, Counts};
 ghost use Rattle.cache.specs.Seen.{seen};
-use crate::Table;
+use crate::types::Table;
 use rules::AskAnswer;
 use rules::CountAnswer;
 use rules::State;

@@ -1,8 +1,8 @@
 // Complete: the block's in-flight patches commit.
 ghost use Rattle.rules.specs.Calls.{Completes};
 ghost use Rattle.cache.specs.Seen.{seen, completion};
-use crate::Completed;
-use crate::Table;
+use crate::types::Completed;
+use crate::types::Table;
 use rules::Answer;
 use rules::refusals::NO_BLOCK;
 use rules::refusals::NONE_IN_FLIGHT;

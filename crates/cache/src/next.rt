@@ -2,7 +2,7 @@
 ghost use mathlib.Core.Path.{_≡_};
 ghost use Rattle.rules.specs.Table.{withSlots};
 ghost use Rattle.cache.specs.Seen.{seen};
-use crate::Table;
+use crate::types::Table;
 use rules::Slot;
 use rules::sizes::SLOTS;
 

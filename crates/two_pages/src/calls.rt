@@ -1,7 +1,7 @@
 // A call and its line: the row, what the call takes, and its whole answer.
 use crate::say;
 use crate::say::Row;
-use cache::Table;
+use cache::types::Table;
 use rules::Answer;
 use rules::CreateAnswer;
 use rules::Hold;

@@ -2,7 +2,7 @@
 use crate::calls;
 use crate::say;
 use crate::say::Row;
-use cache::Table;
+use cache::types::Table;
 
 // A change of one byte, with no numbers.
 fn one(

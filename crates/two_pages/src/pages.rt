@@ -3,7 +3,7 @@
 use crate::calls;
 use crate::say;
 use crate::say::Row;
-use cache::Table;
+use cache::types::Table;
 
 fn to_p4(image: &mut [u8; 16384], undo: &mut [u8; 1024]) -> Table {
     let mut t = calls::open(Row::Start, 1);

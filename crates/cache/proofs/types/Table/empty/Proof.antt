@@ -1,8 +1,8 @@
 -- `Table::empty` meets its contract: 64 free slots. Assumes nothing.
 use borrow.Author.Needs.{needs}
 use Rattle.rules.specs.Table.{slotsFrom}
-use Rattle.cache.proofs.Table.empty.Statement.{statement}
-use Rattle.cache.proofs.Table.empty.Tie as tie
+use Rattle.cache.proofs.types.Table.empty.Statement.{statement}
+use Rattle.cache.proofs.types.Table.empty.Tie as tie
 
 free-requires : tie.Need-free-requires
 free-requires c κs = search needs

@@ -11,8 +11,8 @@ use Rattle.masks.proofs.SetSize.{ones-many}
 use Rattle.rules.specs.Calls.{Counts}
 use Rattle.cache.specs.Seen.{seen}
 use Rattle.cache.proofs.Looks.{count-unsound, count-no-block, count-granted}
-use Rattle.cache.proofs.Table.count.Statement.{statement}
-use Rattle.cache.proofs.Table.count.Tie as tie
+use Rattle.cache.proofs.types.Table.count.Statement.{statement}
+use Rattle.cache.proofs.types.Table.count.Tie as tie
 
 -- The place where the call starts.
 abbrev start : tie.After-is-sound → tie.Start

@@ -13,8 +13,8 @@ use Rattle.send.proofs.Handed.{handed-out}
 use Rattle.cache.specs.Seen.{seen}
 use Rattle.rules.specs.Passed.{WriteReady}
 use Rattle.cache.proofs.Sent.{write-refused, write-only-empty, write-granted}
-use Rattle.cache.proofs.Table.write.Statement.{statement}
-use Rattle.cache.proofs.Table.write.Tie as tie
+use Rattle.cache.proofs.types.Table.write.Statement.{statement}
+use Rattle.cache.proofs.types.Table.write.Tie as tie
 
 -- The places: where the sets of the block have been read, where the call starts, and where the block has been handed out.
 abbrev at-read : tie.After-write-refusal → tie.After-patches-on

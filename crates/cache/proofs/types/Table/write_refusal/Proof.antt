@@ -10,8 +10,8 @@ use Rattle.slots.specs.Walks.{PatchesOn}
 use Rattle.slots.proofs.OnBlock.{some-flies, none-flies, some-waits, none-waits}
 use Rattle.cache.specs.Seen.{seen}
 use Rattle.cache.proofs.Sent.{WriteSized, write-wrong-size, write-unsound, write-no-block, write-flies, write-none-waits}
-use Rattle.cache.proofs.Table.write_refusal.Statement.{statement}
-use Rattle.cache.proofs.Table.write_refusal.Tie as tie
+use Rattle.cache.proofs.types.Table.write_refusal.Statement.{statement}
+use Rattle.cache.proofs.types.Table.write_refusal.Tie as tie
 
 -- The places: where the call starts, and where the sizes have been found right.
 abbrev start : tie.Else3 → tie.Start

@@ -15,8 +15,8 @@ use Rattle.rules.specs.Complete.{landedSlots, completedSlots, completed}
 use Rattle.rules.specs.Calls.{Completes}
 use Rattle.cache.specs.Seen.{seen}
 use Rattle.cache.proofs.Sent.{complete-unsound, complete-no-block, complete-none, complete-granted}
-use Rattle.cache.proofs.Table.complete.Statement.{statement}
-use Rattle.cache.proofs.Table.complete.Tie as tie
+use Rattle.cache.proofs.types.Table.complete.Statement.{statement}
+use Rattle.cache.proofs.types.Table.complete.Tie as tie
 
 -- The place where the call starts.
 abbrev start : tie.After-is-sound → tie.Start

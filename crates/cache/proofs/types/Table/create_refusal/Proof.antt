@@ -10,8 +10,8 @@ use Rattle.rules.specs.Create.{changeOf}
 use Rattle.cache.specs.Seen.{seen}
 use Rattle.cache.proofs.Accepted.{CreateSized, create-wrong-size, create-unsound, create-no-block, create-wrong-length, create-past-end}
 use Rattle.cache.proofs.Accepted.{Past5, create-many-named, create-unissued, create-no-number, create-ready}
-use Rattle.cache.proofs.Table.create_refusal.Statement.{statement}
-use Rattle.cache.proofs.Table.create_refusal.Tie as tie
+use Rattle.cache.proofs.types.Table.create_refusal.Statement.{statement}
+use Rattle.cache.proofs.types.Table.create_refusal.Tie as tie
 
 -- The places: where the call starts, where the sizes have been found right, and where the block has been found to be one.
 abbrev start : tie.Else1 → tie.Start

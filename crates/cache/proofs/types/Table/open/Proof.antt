@@ -10,8 +10,8 @@ use Rattle.rules.specs.Open.{opened}
 use Rattle.rules.specs.Calls.{Opens}
 use Rattle.rules.proofs.Steps.{open-row}
 use Rattle.cache.proofs.Looks.{open-no-first}
-use Rattle.cache.proofs.Table.open.Statement.{statement}
-use Rattle.cache.proofs.Table.open.Tie as tie
+use Rattle.cache.proofs.types.Table.open.Statement.{statement}
+use Rattle.cache.proofs.types.Table.open.Tie as tie
 
 -- The place where the call starts.
 abbrev start : tie.Else1 → tie.Start

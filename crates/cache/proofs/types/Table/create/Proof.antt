@@ -24,8 +24,8 @@ use Rattle.rules.specs.Create.{changeOf}
 use Rattle.cache.specs.Seen.{seen}
 use Rattle.cache.specs.Judged.{withPatch}
 use Rattle.cache.proofs.Accepted.{create-refused, create-no-slot, create-no-room, create-granted, image-made, undo-made}
-use Rattle.cache.proofs.Table.create.Statement.{statement}
-use Rattle.cache.proofs.Table.create.Tie as tie
+use Rattle.cache.proofs.types.Table.create.Statement.{statement}
+use Rattle.cache.proofs.types.Table.create.Tie as tie
 
 -- The places: where the table has been judged, where the call starts, where nothing has been refused early, where a slot has been found free, and
 -- where the patch, the undo area and the image have been made.

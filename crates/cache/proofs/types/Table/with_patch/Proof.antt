@@ -7,8 +7,8 @@ use Rattle.rules.specs.declared.Slot.{Slot}
 use Rattle.rules.specs.Table as rules
 use Rattle.rules.specs.Table.{withSlots, withNext}
 use Rattle.cache.specs.Seen.{seen}
-use Rattle.cache.proofs.Table.with_patch.Statement.{statement}
-use Rattle.cache.proofs.Table.with_patch.Tie as tie
+use Rattle.cache.proofs.types.Table.with_patch.Statement.{statement}
+use Rattle.cache.proofs.types.Table.with_patch.Tie as tie
 
 -- The place where the call starts.
 abbrev start : tie.After-accepted → tie.Start

@@ -7,8 +7,8 @@ use Rattle.rules.specs.Slots.{withBefores}
 use Rattle.rules.specs.Create.{patch}
 use Rattle.rules.specs.Create.{changeOf}
 use Rattle.cache.specs.Seen.{seen}
-use Rattle.cache.proofs.Table.patch.Statement.{statement}
-use Rattle.cache.proofs.Table.patch.Tie as tie
+use Rattle.cache.proofs.types.Table.patch.Statement.{statement}
+use Rattle.cache.proofs.types.Table.patch.Tie as tie
 
 -- The place where the call starts.
 abbrev start : tie.After-befores → tie.Start

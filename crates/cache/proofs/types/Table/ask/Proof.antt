@@ -14,8 +14,8 @@ use Rattle.rules.specs.Ask.{askWord, Asked}
 use Rattle.rules.specs.Calls.{askNumber, Asks}
 use Rattle.cache.specs.Seen.{seen}
 use Rattle.cache.proofs.Looks.{ask-unsound, ask-unissued, ask-granted}
-use Rattle.cache.proofs.Table.ask.Statement.{statement}
-use Rattle.cache.proofs.Table.ask.Tie as tie
+use Rattle.cache.proofs.types.Table.ask.Statement.{statement}
+use Rattle.cache.proofs.types.Table.ask.Tie as tie
 
 -- The places: where the call starts, where the table has been found sound, and where the number has been found issued.
 abbrev start : tie.After-is-sound → tie.Start
