@@ -7,6 +7,9 @@ use rules::CreateAnswer;
 use rules::Hold;
 use rules::State;
 use rules::WriteAnswer;
+use rules::sizes::BLOCK_BYTES;
+use rules::sizes::IMAGE_BYTES;
+use rules::sizes::UNDO_BYTES;
 
 fn refused(k: u32) {
     say::field(b"refused ", k);
@@ -60,8 +63,8 @@ fn after(named: &[u32]) {
 
 pub fn create(
     t: Table,
-    image: &mut [u8; 16384],
-    undo: &mut [u8; 1024],
+    image: &mut [u8; IMAGE_BYTES],
+    undo: &mut [u8; UNDO_BYTES],
     row: Row,
     block: u32,
     offset: u32,
@@ -94,8 +97,14 @@ fn sent(a: WriteAnswer) {
 }
 
 // The block lent holds 9s, and a refusal leaves it so.
-pub fn write(t: Table, image: &[u8; 16384], undo: &[u8; 1024], row: Row, block: u32) -> Table {
-    let mut handed = [9u8; 256];
+pub fn write(
+    t: Table,
+    image: &[u8; IMAGE_BYTES],
+    undo: &[u8; UNDO_BYTES],
+    row: Row,
+    block: u32,
+) -> Table {
+    let mut handed = [9u8; BLOCK_BYTES];
     let o = t.write(image, undo, &mut handed, block);
     let answer = o.answer;
     let table = o.table;

@@ -3,12 +3,14 @@ use crate::calls;
 use crate::say;
 use crate::say::Row;
 use cache::types::Table;
+use rules::sizes::IMAGE_BYTES;
+use rules::sizes::UNDO_BYTES;
 
 // A change of one byte, with no numbers.
 fn one(
     t: Table,
-    image: &mut [u8; 16384],
-    undo: &mut [u8; 1024],
+    image: &mut [u8; IMAGE_BYTES],
+    undo: &mut [u8; UNDO_BYTES],
     row: Row,
     block: u32,
     offset: u32,
@@ -19,8 +21,8 @@ fn one(
 // `times` of them on the block, at offsets 0, 1, 2, ..
 fn many(
     t: Table,
-    image: &mut [u8; 16384],
-    undo: &mut [u8; 1024],
+    image: &mut [u8; IMAGE_BYTES],
+    undo: &mut [u8; UNDO_BYTES],
     row: Row,
     block: u32,
     times: u32,
@@ -33,7 +35,7 @@ fn many(
 }
 
 // Offset, length and the numbers named.
-pub fn ranges(image: &mut [u8; 16384], undo: &mut [u8; 1024]) {
+pub fn ranges(image: &mut [u8; IMAGE_BYTES], undo: &mut [u8; UNDO_BYTES]) {
     say::heading(b"At the edges: offset, length, and how many numbers are named");
     let bytes = [5u8; 65];
     let mut t = calls::open(Row::Range, 1);
@@ -46,7 +48,7 @@ pub fn ranges(image: &mut [u8; 16384], undo: &mut [u8; 1024]) {
 }
 
 // 1 has been issued; 2 to 8 are issued here, so that 8 and 9 different numbers can be named.
-fn named(mut t: Table, image: &mut [u8; 16384], undo: &mut [u8; 1024]) {
+fn named(mut t: Table, image: &mut [u8; IMAGE_BYTES], undo: &mut [u8; UNDO_BYTES]) {
     t = many(t, image, undo, Row::Named, 3, 7);
     t = calls::create(
         t,
@@ -72,7 +74,7 @@ fn named(mut t: Table, image: &mut [u8; 16384], undo: &mut [u8; 1024]) {
 }
 
 // Opened at the last number, one create is granted. Above it nothing opens.
-pub fn last_number(image: &mut [u8; 16384], undo: &mut [u8; 1024]) {
+pub fn last_number(image: &mut [u8; IMAGE_BYTES], undo: &mut [u8; UNDO_BYTES]) {
     say::heading(b"At the edges: the last number");
     let mut t = calls::open(Row::Last, 1000000000);
     many(t, image, undo, Row::Last, 0, 2);
@@ -81,7 +83,7 @@ pub fn last_number(image: &mut [u8; 16384], undo: &mut [u8; 1024]) {
 }
 
 // Sixty-four are all hard, and the sixty-fifth finds no slot.
-pub fn slots(image: &mut [u8; 16384], undo: &mut [u8; 1024]) {
+pub fn slots(image: &mut [u8; IMAGE_BYTES], undo: &mut [u8; UNDO_BYTES]) {
     say::heading(b"At the edges: sixty-four slots");
     let mut t = calls::open(Row::Slots, 1);
     many(t, image, undo, Row::Slots, 0, 65);
@@ -89,7 +91,7 @@ pub fn slots(image: &mut [u8; 16384], undo: &mut [u8; 1024]) {
 
 // One waits on block 1 and one on block 2 names it. Sixteen more on block 1 are soft, and the
 // seventeenth finds no room.
-pub fn rooms(image: &mut [u8; 16384], undo: &mut [u8; 1024]) {
+pub fn rooms(image: &mut [u8; IMAGE_BYTES], undo: &mut [u8; UNDO_BYTES]) {
     say::heading(b"At the edges: sixteen rooms");
     let mut t = calls::open(Row::Rooms, 1);
     t = calls::create(t, image, undo, Row::Rooms, 1, 0, &[5], &[]);

@@ -6,10 +6,13 @@ mod edges;
 mod pages;
 mod say;
 
+use rules::sizes::IMAGE_BYTES;
+use rules::sizes::UNDO_BYTES;
+
 fn main() {
-    let mut image = [0u8; 16384];
+    let mut image = [0u8; IMAGE_BYTES];
     // The undo area holds what it may. 7s show an old byte that was taken from anywhere but a kept room.
-    let mut undo = [7u8; 1024];
+    let mut undo = [7u8; UNDO_BYTES];
     pages::session(&mut image, &mut undo);
     edges::ranges(&mut image, &mut undo);
     edges::last_number(&mut image, &mut undo);

@@ -2,6 +2,7 @@
 ghost use Prim.Native.Nat.{_+_, _≤_, _<_};
 ghost use lib.ListN.{length};
 use libc::STDOUT_FILENO;
+use rules::sizes::SLOTS;
 
 // The row of the paper's table that a line belongs to, or its opening, its branch, or which of the
 // edges.
@@ -84,7 +85,7 @@ fn member(set: u64, i: usize) {
 
 // The slots of a set, lowest first.
 pub fn set(set: u64) {
-    for i in 0..64 {
+    for i in 0..SLOTS {
         member(set, i);
     }
 }
