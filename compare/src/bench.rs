@@ -4,9 +4,9 @@
 use crate::judge::cover::Cover;
 use crate::judge::run::{Order, Pair, Run};
 use crate::library::calls::Library;
+use crate::library::mock::Mock;
 use crate::library::pipe::Pipe;
 use crate::library::through;
-use crate::model::mock::Mock;
 use crate::model::rules::Right;
 use crate::model::table::{KINDS, Kind};
 use crate::orders::maker::{Maker, Taste};

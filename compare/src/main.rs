@@ -10,14 +10,14 @@ mod model;
 mod orders;
 mod words;
 
-use cases::{fixed, pasted, sweep, wrong};
+use cases::{fixed, pasted, sweep, twoways, wrong};
 use judge::drive::{Driver, Failed};
 use judge::run::Pair;
 use judge::{run, shrink};
+use library::mock::Mock;
 use library::through::{self, Through};
-use model::mock::Mock;
 use model::rules::Right;
-use model::twoways;
+
 use std::process::ExitCode;
 use std::time::{Duration, Instant};
 use words::Command;

@@ -3,4 +3,5 @@
 pub mod fixed;
 pub mod pasted;
 pub mod sweep;
+pub mod twoways;
 pub mod wrong;

@@ -7,7 +7,7 @@ use crate::judge::drive::Driver;
 use crate::judge::run::Pair;
 use crate::judge::shrink;
 use crate::library::calls::Library;
-use crate::model::mock::Mock;
+use crate::library::mock::Mock;
 use crate::model::rules::{Model, Right};
 use crate::model::table::*;
 use crate::orders::steps::Answer;

@@ -9,5 +9,6 @@ pub mod calls;
 #[cfg(linked)]
 #[allow(unsafe_code)]
 pub mod linked;
+pub mod mock;
 pub mod pipe;
 pub mod through;

@@ -2,8 +2,8 @@
 //! stands in for the library.
 
 use crate::library::calls::Library;
+use crate::library::mock::Mock;
 use crate::library::pipe::Pipe;
-use crate::model::mock::Mock;
 use crate::model::rules::Right;
 use std::path::Path;
 use std::process::Command;
