@@ -1,4 +1,4 @@
--- A bool that answers a question: the promise of every test in the code.
+-- Between crates, need not be believed: a bool that answers a question, which every test in the code promises. No call promises by it.
 use mathlib.Core.Bool.{Bool, true, false}
 
 -- r says whether P holds
