@@ -10,7 +10,7 @@ use Rattle.rules.specs.declared.Hold.{Hold}
 use Rattle.rules.specs.declared.Slot.{Slot}
 use Rattle.rules.specs.Sizes.{slots}
 use Rattle.rules.specs.Table.{slotAt, fliesOn}
-use Rattle.rules.specs.Create.{acceptedSlot, acceptedSlots}
+use Rattle.rules.specs.Create.{Change, acceptedSlot, acceptedSlots, added, joinedSlot, joinedSlots}
 use Rattle.rules.specs.Write.{sentSlot, sentSlots}
 use Rattle.rules.specs.Complete.{withoutBefores, landedSlot, landedSlots, landing, completedSlots}
 use Rattle.rules.proofs.SlotsBy.{slot-by}
@@ -19,6 +19,11 @@ pub accepted-at : (ss : List Slot) (p : Slot) (j : ℕ) (h : Hold) (i : ℕ) →
     → slotAt (acceptedSlots ss p j h) i ≡ acceptedSlot p h (eqb i j) (slotAt ss i)
 unfolding acceptedSlots
 accepted-at ss p j h = slot-by (λ i. acceptedSlot p h (eqb i j) (slotAt ss i))
+
+pub joined-at : (ss : List Slot) (c : Change) (j i : ℕ) → i < slots
+    → slotAt (joinedSlots ss c j) i ≡ joinedSlot (added ss c) (c .block) (eqb i j) (slotAt ss i)
+unfolding joinedSlots
+joined-at ss c j = slot-by (λ i. joinedSlot (added ss c) (c .block) (eqb i j) (slotAt ss i))
 
 pub sent-at : (ss : List Slot) (s i : ℕ) → i < slots → slotAt (sentSlots ss s) i ≡ sentSlot (has s i) (slotAt ss i)
 unfolding sentSlots

@@ -12,12 +12,12 @@ use Rattle.masks.specs.Sets.{has}
 use Rattle.masks.proofs.Laws.{has-none, no-member, a-member, set-none, set-some}
 use Rattle.ground.proofs.Decided.{clash, true-or-false}
 use Rattle.rules.specs.declared.Slot.{Slot}
-use Rattle.rules.specs.Sizes.{blocks, blockBytes, imageBytes, undoBytes, mostBytes, mostNamed, lastNumber}
-use Rattle.rules.specs.Table.{Table, used, waitsOn, Sound, Issued}
+use Rattle.rules.specs.Sizes.{blocks, blockBytes, imageBytes, mostBytes, mostNamed, lastNumber}
+use Rattle.rules.specs.Table.{Table, used, waitsOn, Waits, Flies, Sound, Issued}
 use Rattle.rules.specs.Create.{Change, isIn}
 use Rattle.rules.specs.Write.{MayGo, Largest}
 use Rattle.rules.specs.Passed.{NamesIssued, CreatePassed, WritePassed}
-use Rattle.rules.specs.Refusals.{First, Flies, Waits, OnlyEmpty, NamesUnissued, createCases, writeCases}
+use Rattle.rules.specs.Refusals.{First, OnlyEmpty, NamesUnissued, createCases, writeCases}
 use Rattle.rules.specs.Calls.{Creation, Creates, createNumber, Writing, Writes, writeNumber}
 use Rattle.rules.proofs.Cases.{passed}
 
@@ -62,7 +62,7 @@ waits-holds ss b f = set-some (waitsOn ss b) refl (λ z. f (λ w. set-none (wait
 
 -- ---- create
 
-create-facts : (t : Table) (image undo : List ℕ) (c : Change) → First (createCases t image undo c) 0 → CreatePassed t image undo c
+pub create-facts : (t : Table) (image undo : List ℕ) (c : Change) → First (createCases t image undo c) 0 → CreatePassed t image undo c
 create-facts t image undo c f =
     let c1 = passed (λ e. omega arith) f in
     let c2 = passed (λ e. omega arith) (c1 .1) in
@@ -76,16 +76,18 @@ create-facts t image undo c f =
     let few-bytes : (mostBytes < length (c .bytes) → ⊥) = λ l. c4 .0 (inr l) in
     let is-sound = sound-holds t (c2 .0) in
     record {
-      image-whole = equal (λ d. c1 .0 (inl d));
-      undo-whole = equal (λ d. c1 .0 (inr d));
-      sound = is-sound;
-      is-block = omega (arith, c3 .0);
-      len-least = omega (arith, some-bytes);
-      len-most = omega (arith, few-bytes);
-      ends = omega (arith, c5 .0);
-      few-named = omega (arith, c6 .0);
-      issued = issued-holds t c (c7 .0);
-      last = omega (arith, c8 .0, is-sound .next-most);
+      ready = record {
+        image-whole = equal (λ d. c1 .0 (inl d));
+        undo-whole = equal (λ d. c1 .0 (inr d));
+        sound = is-sound;
+        is-block = omega (arith, c3 .0);
+        len-least = omega (arith, some-bytes);
+        len-most = omega (arith, few-bytes);
+        ends = omega (arith, c5 .0);
+        few-named = omega (arith, c6 .0);
+        issued = issued-holds t c (c7 .0);
+      };
+      last = λ own. let d : (t .next ≡ lastNumber + 1 → ⊥) = λ e. c8 .0 (own, e) in omega (arith, d, is-sound .next-most);
     }
 
 pub create-passed : {t : Table} {image undo : List ℕ} {c : Change} {o : Creation} → Creates t image undo c o → createNumber (o .answer) ≡ 0

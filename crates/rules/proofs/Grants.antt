@@ -15,16 +15,21 @@ use Rattle.rules.specs.Table.{Table, slotAt, Sound, InSlot}
 use Rattle.rules.specs.Create.{Change}
 use Rattle.rules.specs.Ask.{askWord, Asked}
 use Rattle.rules.specs.Refusals.{First, askCases}
-use Rattle.rules.specs.Calls.{Creation, createGranted, Accepts, Writing, writeGranted, sentSet, Sends, CountsWaiting}
+use Rattle.rules.specs.Calls.{Creation, createGranted, createJoined, Accepts, Writing, writeGranted, sentSet, Sends, CountsWaiting}
 use Rattle.rules.proofs.Cases.{passed}
 use Rattle.masks.proofs.Lowest.{lowest-one}
 use Rattle.rules.proofs.HardOrSoft.{hold-one}
 use Rattle.rules.proofs.Largest.{largest-one}
 use Rattle.rules.proofs.Words.{not-both}
+use Rattle.rules.proofs.Joined.{lowest-numbered-one}
 
-pub accepts-one : (t : Table) (image undo : List ℕ) (c : Change) (o p : Creation) → Accepts t image undo c o → Accepts t image undo c p → o ≡ p
-accepts-one t image undo c o p a b =
+pub accepts-one : (t : Table) (image undo : List ℕ) (c : Change) (o p : Creation) → Sound t → Accepts t image undo c o → Accepts t image undo c p → o ≡ p
+accepts-one t image undo c o p s (Accepts.takes d a) (Accepts.takes e b) =
     a .whole ∙ ap₂ (createGranted t image undo c) (lowest-one (a .lowest) (b .lowest)) (hold-one (a .hard-or-soft) (b .hard-or-soft)) ∙ sym (b .whole)
+accepts-one t image undo c o p s (Accepts.takes d a) (Accepts.joins e b) = absurd (d e)
+accepts-one t image undo c o p s (Accepts.joins d a) (Accepts.takes e b) = absurd (e d)
+accepts-one t image undo c o p s (Accepts.joins d a) (Accepts.joins e b) =
+    a .whole ∙ ap (createJoined t image undo c) (lowest-numbered-one t (c .block) (a .slot) (b .slot) s (a .lowest) (b .lowest)) ∙ sym (b .whole)
 
 pub sends-one : (t : Table) (image undo : List ℕ) (b : ℕ) (o p : Writing) → Sends t image undo b o → Sends t image undo b p → o ≡ p
 sends-one t image undo b o p x y =

@@ -4,11 +4,12 @@ use mathlib.Core.Path.{_≡_, refl, ap}
 use mathlib.Core.List.{List}
 use Rattle.rules.specs.declared.Hold.{Hold}
 use Rattle.rules.specs.declared.Hold.the-variants as hold
+use Rattle.rules.specs.declared.Setting.{Setting}
 use Rattle.rules.specs.declared.Slot.{Slot}
 use Rattle.masks.proofs.Lowest.{lowest-one}
 use Rattle.rules.specs.Create.{HoldOf}
 
-pub hold-one : {ss : List Slot} {b : ℕ} {g h : Hold} → HoldOf ss b g → HoldOf ss b h → g ≡ h
+pub hold-one : {g : Setting} {ss : List Slot} {b : ℕ} {h k : Hold} → HoldOf g ss b h → HoldOf g ss b k → h ≡ k
 hold-one (HoldOf.hard p) (HoldOf.hard q) = refl
 hold-one (HoldOf.hard p) (HoldOf.soft n r) = absurd (n p)
 hold-one (HoldOf.soft n r) (HoldOf.hard p) = absurd (n p)

@@ -10,10 +10,12 @@ pub mod Rounds
 pub mod TakenBack
 pub mod Pins
 pub mod Refused
-pub mod Grants
-pub mod OneAnswer
+pub mod SettingKept
 pub mod Granted
 pub mod StaysSound
+pub mod Joined
+pub mod Grants
+pub mod OneAnswer
 pub mod SoundCalls
 pub mod Computed
 pub mod Steps

@@ -13,8 +13,8 @@ use Rattle.spans.specs.Spans.{part}
 use Rattle.spans.proofs.Laws.{length-splice, length-part}
 use Rattle.rules.specs.declared.Slot.{Slot}
 use Rattle.rules.specs.Sizes.{slots, blocks, blockBytes, blockStart, imageBytes}
-use Rattle.rules.specs.Table.{Table, slotAt, used, Committed}
-use Rattle.rules.specs.Create.{Change, isIn, shares, isNamed, overlaps, befores}
+use Rattle.rules.specs.Table.{Table, slotAt, used, hardPatchOn, Committed}
+use Rattle.rules.specs.Create.{Change, isIn, shares, overlaps, isBefore, befores}
 use Rattle.rules.specs.Write.{leftBehind, takenBack, backNumber, backDown, handedOut}
 
 -- ranges share a byte just where a place is in both
@@ -37,8 +37,8 @@ same-befores : (ss : List Slot) (c : Change) (n : ℕ)
     → befores ss (naming n c) ≡ befores ss c
 unfolding befores isIn
 same-befores ss c n f =
-    set-ext (λ i. isNamed ss (naming n c) i || overlaps ss c i) (λ i. isNamed ss c i || overlaps ss c i)
-    (λ i l. ap (λ (x : Bool). x || overlaps ss c i) (same i l (used ss i) refl))
+    set-ext (isBefore ss (naming n c)) (isBefore ss c)
+    (λ i l. ap (λ (x : Bool). x || (overlaps ss c i || hardPatchOn ss (c .block) i)) (same i l (used ss i) refl))
   where
     absorbed : (a b : Bool) → (a ≡ true → b ≡ true) → (a || b) ≡ b
     absorbed true b g = sym (g refl)

@@ -2,7 +2,7 @@
 use Prim.Native.Nat.{ℕ, _+_, _<_, _≤_}
 use mathlib.Core.Path.{_≡_, refl, sym, ap, subst, _∙_}
 use mathlib.Core.Bool.{Bool, true, false, _&&_}
-use mathlib.Core.List.{List}
+use mathlib.Core.List.{List, [], _∷_}
 use mathlib.Core.Logic.{_⊎_, ⊎-elim}
 use native.Mathlib.Omega.{arith}
 use borrow.Author.Tests.{leb-true, ltb-true}
@@ -14,19 +14,22 @@ use Rattle.ground.proofs.Decided.{clash, and-true}
 use Rattle.spans.proofs.Laws.{length-splice}
 use Rattle.rules.specs.declared.Hold.{Hold}
 use Rattle.rules.specs.declared.Hold.the-variants as hold
+use Rattle.rules.specs.declared.Setting.{Setting}
 use Rattle.rules.specs.declared.Slot.{Slot}
-use Rattle.rules.specs.Sizes.{blocks, blockBytes, imageBytes, undoBytes, slots, mostBytes, mostNamed, lastNumber}
-use Rattle.rules.specs.Table.{Table, fliesOn, waitsOn, Sound}
+use Rattle.rules.specs.Sizes.{blocks, blockBytes, imageBytes, slots, mostBytes, mostNamed, lastNumber}
+use Rattle.rules.specs.Settings.{undoBytes}
+use Rattle.rules.specs.Table.{Table, fliesOn, waitsOn, Waits, Flies, Sound}
 use Rattle.masks.specs.Lowest.{Lowest}
-use Rattle.rules.specs.Create.{Change, FreeSlot, HoldOf, changed, kept}
+use Rattle.rules.specs.Create.{Change, FreeSlot, HoldOf, Joins, LowestNumbered, changed, kept}
 use Rattle.rules.specs.Write.{Largest}
 use Rattle.rules.specs.Rounds.{round, rounds}
-use Rattle.rules.specs.Refusals.{NoRoom, Flies}
-use Rattle.rules.specs.Calls.{Opens, openGranted, Creation, Creates, createGranted, Writing, Writes, writeGranted, writeRefused, Completion, Completes}
+use Rattle.rules.specs.Refusals.{NoRoom, TakesSlot, First, Case, createCases, NoNumber, NoSlot, case}
+use Rattle.rules.specs.Calls.{Opens, openGranted, Creation, Creates, Accepts, createGranted, createJoined, Writing, Writes, writeGranted, writeRefused, Completion, Completes}
 use Rattle.rules.specs.Calls.{completeGranted}
 use Rattle.rules.specs.Rows.{Radio}
 use Rattle.rules.proofs.Cases.{holds, passes, none-holds}
 use Rattle.rules.proofs.Outcomes.{refuses, grants}
+use Rattle.rules.proofs.SettingKept.{create-setting, write-setting, complete-setting}
 use Rattle.rules.proofs.SoundCalls.{create-sound, write-sound, complete-sound}
 use Rattle.rules.proofs.Computed.{allIssued, names-issued}
 use Rattle.rules.proofs.Largest.{largest-empty}
@@ -36,7 +39,7 @@ use Rattle.rules.proofs.Rounds.{hardSet, waitingSet, rounds-largest}
 pub record Good (r : Radio) : Type 0 where
   pub sound : Sound (r .table)
   pub image-whole : length (r .image) ≡ imageBytes
-  pub undo-whole : length (r .undo) ≡ undoBytes
+  pub undo-whole : length (r .undo) ≡ undoBytes (r .table .setting)
 
 abbrev pub afterCreate : Creation → Radio
 afterCreate o = record { table = o .table; image = o .image; undo = o .undo }
@@ -52,6 +55,10 @@ abbrev pub Made : Radio → Change → ℕ → Hold → Type 0
 Made r c j h = Creates (r .table) (r .image) (r .undo) c (createGranted (r .table) (r .image) (r .undo) c j h) × Good
     (afterCreate (createGranted (r .table) (r .image) (r .undo) c j h))
 
+abbrev pub JoinedIn : Radio → Change → ℕ → Type 0
+JoinedIn r c j = Creates (r .table) (r .image) (r .undo) c (createJoined (r .table) (r .image) (r .undo) c j) × Good
+    (afterCreate (createJoined (r .table) (r .image) (r .undo) c j))
+
 abbrev pub Went : Radio → List ℕ → ℕ → ℕ → Type 0
 Went r lent b s = Writes (r .table) (r .image) (r .undo) lent b (writeGranted (r .table) (r .image) (r .undo) b s) × Good
     (afterWrite (writeGranted (r .table) (r .image) (r .undo) b s))
@@ -64,8 +71,8 @@ abbrev pub Stayed : Radio → List ℕ → ℕ → ℕ → Type 0
 Stayed r lent b k = Writes (r .table) (r .image) (r .undo) lent b (writeRefused (r .table) (r .image) (r .undo) lent k)
 
 -- a granted open
-pub open-row : (n : ℕ) → (n ≡ 0 → ⊥) → n ≤ lastNumber → Opens n (openGranted n)
-open-row n d l = grants (openGranted n) (passes (⊎-elim d (λ m. omega arith)) none-holds) refl refl
+pub open-row : (g : Setting) (n : ℕ) → (n ≡ 0 → ⊥) → n ≤ lastNumber → Opens g n (openGranted g n)
+open-row g n d l = grants (openGranted g n) (passes (⊎-elim d (λ m. omega arith)) none-holds) refl refl
 
 -- ---- create
 
@@ -75,11 +82,15 @@ inBounds t c =
     ltb (c .block) blocks &&
     (leb 1 (length (c .bytes)) &&
     (leb (length (c .bytes)) mostBytes &&
-    (leb (c .offset + length (c .bytes)) blockBytes && (leb (length (c .named)) mostNamed && (allIssued t (c .named) && leb (t .next) lastNumber)))))
+    (leb (c .offset + length (c .bytes)) blockBytes && (leb (length (c .named)) mostNamed && allIssued t (c .named)))))
 
-room-for : (ss : List Slot) (c : Change) (h : Hold) → HoldOf ss (c .block) h → NoRoom ss c → ⊥
-room-for ss c h (HoldOf.hard w) n = n .0 w
-room-for ss c h (HoldOf.soft {r = r} w low) n = n .1 r (low .within) (low .holds)
+room-for : (t : Table) (c : Change) (h : Hold) → HoldOf (t .setting) (t .slots) (c .block) h → NoRoom t c → ⊥
+room-for t c h (HoldOf.hard w) n = n .0 w
+room-for t c h (HoldOf.soft {r = r} w low) n = n .1 r (low .within) (low .holds)
+
+-- a creation on a block where none waits, and one that is soft, takes a slot
+pub none-to-join : (t : Table) (c : Change) → someBelow (waitsOn (t .slots) (c .block)) slots ≡ false → TakesSlot t c
+none-to-join t c e j = let w = j .some-wait in clash (w .2) (none-at (waitsOn (t .slots) (c .block)) slots (w .0) e (w .1))
 
 length-kept : (undo image : List ℕ) (c : Change) (h : Hold) → length (kept undo image c h) ≡ length undo
 unfolding kept
@@ -87,53 +98,77 @@ length-kept undo image c hold.Hard = refl
 length-kept undo image c (hold.Soft r) = length-splice undo _ _
 
 module _ (r : Radio) (g : Good r) where
-  created : (c : Change) (j : ℕ) (h : Hold) → inBounds (r .table) c ≡ true → Lowest slots (FreeSlot (r .table .slots)) j → HoldOf (r .table .slots) (c .block) h
-      → Creates (r .table) (r .image) (r .undo) c (createGranted (r .table) (r .image) (r .undo) c j h)
+  -- refusals 1 to 7 are passed
+  passed-seven : (c : Change) → inBounds (r .table) c ≡ true
+      → First (case 8 (NoNumber (r .table) c) ∷ case 9 (NoSlot (r .table) c) ∷ case 10 (NoRoom (r .table) c) ∷ []) 0
+      → First (createCases (r .table) (r .image) (r .undo) c) 0
   unfolding inBounds
-  created c j h e low held =
+  passed-seven c e rest =
       let w1 = and-true (ltb (c .block) blocks) _ e in
       let w2 = and-true (leb 1 (length (c .bytes))) _ (w1 .1) in
       let w3 = and-true (leb (length (c .bytes)) mostBytes) _ (w2 .1) in
       let w4 = and-true (leb (c .offset + length (c .bytes)) blockBytes) _ (w3 .1) in
       let w5 = and-true (leb (length (c .named)) mostNamed) _ (w4 .1) in
-      let w6 = and-true (allIssued (r .table) (c .named)) _ (w5 .1) in
       let b1 : c .block < blocks = ltb-true _ _ (w1 .0) in
       let b2 : 1 ≤ length (c .bytes) = leb-true _ _ (w2 .0) in
       let b3 : length (c .bytes) ≤ mostBytes = leb-true _ _ (w3 .0) in
       let b4 : c .offset + length (c .bytes) ≤ blockBytes = leb-true _ _ (w4 .0) in
       let b5 : length (c .named) ≤ mostNamed = leb-true _ _ (w5 .0) in
-      let b6 : r .table .next ≤ lastNumber = leb-true _ _ (w6 .1) in
-      grants (createGranted (r .table) (r .image) (r .undo) c j h)
-      (passes (⊎-elim (λ n. n (g .image-whole)) (λ n. n (g .undo-whole)))
+      passes (⊎-elim (λ n. n (g .image-whole)) (λ n. n (g .undo-whole)))
       (passes (λ n. n (g .sound))
       (passes (λ l. omega arith)
       (passes (⊎-elim (λ l. omega arith) (λ l. omega arith))
       (passes (λ l. omega arith)
       (passes (λ l. omega arith)
-      (passes (names-issued (r .table) c (w6 .0))
-      (passes (λ l. omega arith)
-      (passes (λ n. n j (low .within) (low .holds))
-      (passes (room-for (r .table .slots) c h held)
-      none-holds))))))))))
+      (passes (names-issued (r .table) c (w5 .1))
+      rest))))))
+
+  created : (c : Change) (j : ℕ) (h : Hold) → inBounds (r .table) c ≡ true → r .table .next ≤ lastNumber → TakesSlot (r .table) c
+      → Lowest slots (FreeSlot (r .table .slots)) j → HoldOf (r .table .setting) (r .table .slots) (c .block) h
+      → Creates (r .table) (r .image) (r .undo) c (createGranted (r .table) (r .image) (r .undo) c j h)
+  created c j h e last own low held =
+      grants (createGranted (r .table) (r .image) (r .undo) c j h)
+      (passed-seven c e
+      (passes (λ n. omega (arith, n .1))
+      (passes (λ n. n .1 j (low .within) (low .holds))
+      (passes (room-for (r .table) c h held)
+      none-holds))))
       refl
-      (record { slot = j; hold = h; lowest = low; hard-or-soft = held; number = refl; says = refl; whole = refl })
+      (Accepts.takes own (record { slot = j; hold = h; lowest = low; hard-or-soft = held; number = refl; says = refl; whole = refl }))
+
+  joins-in : (c : Change) (j : ℕ) → inBounds (r .table) c ≡ true → Joins (r .table .setting) (r .table .slots) (c .block)
+      → LowestNumbered (r .table .slots) (c .block) j
+      → Creates (r .table) (r .image) (r .undo) c (createJoined (r .table) (r .image) (r .undo) c j)
+  joins-in c j e does low =
+      grants (createJoined (r .table) (r .image) (r .undo) c j)
+      (passed-seven c e (passes (λ n. n .0 does) (passes (λ n. n .0 does) (passes (λ n. n .0 (does .would-be-hard)) none-holds))))
+      refl
+      (Accepts.joins does (record { slot = j; lowest = low; number = refl; says = refl; whole = refl }))
 
   good-created : (c : Change) (o : Creation) → Creates (r .table) (r .image) (r .undo) c o → length (o .image) ≡ length (r .image)
       → length (o .undo) ≡ length (r .undo) → Good (afterCreate o)
   good-created c o p i u = record {
     sound = create-sound (r .table) (r .image) (r .undo) c o (g .sound) p;
     image-whole = i ∙ g .image-whole;
-    undo-whole = u ∙ g .undo-whole;
+    undo-whole = u ∙ g .undo-whole ∙ ap undoBytes (sym (create-setting (r .table) (r .image) (r .undo) c o p));
   }
 
   -- a granted create, and what it leaves
-  pub create-row : (c : Change) (j : ℕ) (h : Hold) → inBounds (r .table) c ≡ true → Lowest slots (FreeSlot (r .table .slots)) j
-      → HoldOf (r .table .slots) (c .block) h
+  pub create-row : (c : Change) (j : ℕ) (h : Hold) → inBounds (r .table) c ≡ true → r .table .next ≤ lastNumber → TakesSlot (r .table) c
+      → Lowest slots (FreeSlot (r .table .slots)) j → HoldOf (r .table .setting) (r .table .slots) (c .block) h
       → Made r c j h
   unfolding changed
-  create-row c j h e low held =
-      let p = created c j h e low held in
+  create-row c j h e last own low held =
+      let p = created c j h e last own low held in
       (p, good-created c (createGranted (r .table) (r .image) (r .undo) c j h) p (length-splice (r .image) _ _) (length-kept (r .undo) (r .image) c h))
+
+  -- one that joins, and what it leaves
+  pub join-row : (c : Change) (j : ℕ) → inBounds (r .table) c ≡ true → Joins (r .table .setting) (r .table .slots) (c .block)
+      → LowestNumbered (r .table .slots) (c .block) j → JoinedIn r c j
+  unfolding changed
+  join-row c j e does low =
+      let p = joins-in c j e does low in
+      (p, good-created c (createJoined (r .table) (r .image) (r .undo) c j) p (length-splice (r .image) _ _) refl)
 
   -- ---- write
 
@@ -180,7 +215,7 @@ module _ (r : Radio) (g : Good r) where
         record {
           sound = write-sound (r .table) (r .image) (r .undo) lent b (writeGranted (r .table) (r .image) (r .undo) b s) (g .sound) p;
           image-whole = g .image-whole;
-          undo-whole = g .undo-whole;
+          undo-whole = g .undo-whole ∙ ap undoBytes (sym (write-setting (r .table) (r .image) (r .undo) lent b _ p));
         },
       )
         where
@@ -202,5 +237,11 @@ module _ (r : Radio) (g : Good r) where
       → Done r b
   complete-row b i is-block l f =
       let p : Completes (r .table) b (completeGranted (r .table) b) =
-      grants (completeGranted (r .table) b) (passes (λ n. n (g .sound)) (passes (λ l. omega arith) (passes (λ n. n (i, l, f)) none-holds))) refl refl in
-      (p, record { sound = complete-sound (r .table) b (completeGranted (r .table) b) (g .sound) p; image-whole = g .image-whole; undo-whole = g .undo-whole })
+      grants (completeGranted (r .table) b) (passes (λ n. n (g .sound)) (passes (λ l. omega arith) (passes (λ n. n (i, l, f)) none-holds))) refl refl in (
+        p,
+        record {
+          sound = complete-sound (r .table) b (completeGranted (r .table) b) (g .sound) p;
+          image-whole = g .image-whole;
+          undo-whole = g .undo-whole ∙ ap undoBytes (sym (complete-setting (r .table) b _ p));
+        },
+      )

@@ -8,10 +8,11 @@ use borrow.Author.Tests.{eq-eqb, eqb-true}
 use lib.Dec.{eqb}
 use Rattle.ground.proofs.Decided.{clash, and-true, true-and}
 use Rattle.rules.specs.declared.Hold.the-variants as hold
+use Rattle.rules.specs.declared.Kind.the-variants as kind
 use Rattle.rules.specs.declared.State.{State}
 use Rattle.rules.specs.declared.State.the-variants as state
 use Rattle.rules.specs.declared.Slot.{Slot}
-use Rattle.rules.specs.Slots.{isUsed, isWaiting, isInFlight, isHard, hasRoom, roomOf}
+use Rattle.rules.specs.Slots.{isUsed, isWaiting, isInFlight, isHard, isHardPatch, hasRoom, roomOf}
 use Rattle.rules.specs.Table.{slotAt, used, waitsOn, hardOn, HasRoom}
 use Rattle.rules.specs.Create.{turnedState}
 use Rattle.rules.specs.Write.{sentState}
@@ -27,6 +28,17 @@ pub hard-waits : (u : State) → isHard u ≡ true → isWaiting u ≡ true
 hard-waits state.Free e = e
 hard-waits (state.Waiting h) e = refl
 hard-waits (state.InFlight k) e = e
+
+pub hard-patch-used : (u : State) → isHardPatch u ≡ true → isUsed u ≡ true
+hard-patch-used state.Free e = e
+hard-patch-used (state.Waiting h) e = refl
+hard-patch-used (state.InFlight k) e = refl
+
+pub hard-is-patch : (u : State) → isHard u ≡ true → isHardPatch u ≡ true
+hard-is-patch state.Free e = e
+hard-is-patch (state.Waiting hold.Hard) e = refl
+hard-is-patch (state.Waiting (hold.Soft r)) e = e
+hard-is-patch (state.InFlight k) e = absurd (clash e refl)
 
 pub not-both : (u : State) → isWaiting u ≡ true → isInFlight u ≡ true → ⊥
 not-both state.Free w f = clash w refl
@@ -54,12 +66,17 @@ room-below (state.Waiting hold.Hard) n l f = l
 room-below (state.Waiting (hold.Soft r)) n l f = f r (eq-eqb r r refl)
 room-below (state.InFlight k) n l f = l
 
--- ---- what a call leaves of it: what is in use stays so, and nobody gets a room
+-- ---- what a call leaves of it: what is in use stays so, what is hard stays so, and nobody gets a room
 
 pub turned-used : (u : State) → isUsed (turnedState u) ≡ isUsed u
 turned-used state.Free = refl
 turned-used (state.Waiting h) = refl
 turned-used (state.InFlight k) = refl
+
+pub turned-hard : (u : State) → isHardPatch u ≡ true → isHardPatch (turnedState u) ≡ true
+turned-hard state.Free e = e
+turned-hard (state.Waiting h) e = refl
+turned-hard (state.InFlight k) e = e
 
 pub turned-room : (u : State) (r : ℕ) → hasRoom (turnedState u) r ≡ true → hasRoom u r ≡ true
 turned-room state.Free r e = e
@@ -70,6 +87,12 @@ pub sent-used : (u : State) → isUsed (sentState u) ≡ isUsed u
 sent-used state.Free = refl
 sent-used (state.Waiting h) = refl
 sent-used (state.InFlight k) = refl
+
+pub sent-hard : (u : State) → isHardPatch u ≡ true → isHardPatch (sentState u) ≡ true
+sent-hard state.Free e = e
+sent-hard (state.Waiting hold.Hard) e = refl
+sent-hard (state.Waiting (hold.Soft r)) e = e
+sent-hard (state.InFlight k) e = e
 
 pub sent-room : (u : State) (r : ℕ) → hasRoom (sentState u) r ≡ true → hasRoom u r ≡ true
 sent-room state.Free r e = e

@@ -3,7 +3,9 @@ use Prim.Native.Nat.{ℕ}
 use mathlib.Core.Path.{_≡_}
 use mathlib.Core.List.{List}
 use mathlib.Core.Option.{Option, none, some}
+use Rattle.rules.specs.declared.Setting.{Setting}
 use Rattle.rules.specs.declared.Hold.{Hold}
+use Rattle.rules.specs.declared.Hold.the-variants as hold
 use Rattle.rules.specs.declared.CreateAnswer.{CreateAnswer}
 use Rattle.rules.specs.declared.CreateAnswer.the-variants as create
 use Rattle.rules.specs.declared.WriteAnswer.{WriteAnswer}
@@ -15,15 +17,15 @@ use Rattle.rules.specs.declared.CountAnswer.the-variants as count
 use Rattle.rules.specs.declared.Answer.{Answer}
 use Rattle.rules.specs.declared.Answer.the-variants as plain
 use Rattle.rules.specs.Sizes.{slots}
-use Rattle.rules.specs.Table.{Table}
+use Rattle.rules.specs.Table.{Table, slotAt}
 use Rattle.rules.specs.Open.{opened}
 use Rattle.masks.specs.Lowest.{Lowest}
-use Rattle.rules.specs.Create.{Change, FreeSlot, HoldOf, accepted, changed, kept}
+use Rattle.rules.specs.Create.{Change, FreeSlot, HoldOf, Joins, LowestNumbered, accepted, joined, changed, kept}
 use Rattle.rules.specs.Write.{Largest, handedOut, sent}
 use Rattle.rules.specs.Complete.{completed}
 use Rattle.rules.specs.Ask.{askWord, Asked}
 use Rattle.rules.specs.Count.{waitingOn}
-use Rattle.rules.specs.Refusals.{Case, First, openCases, createCases, writeCases, completeCases, askCases, countCases}
+use Rattle.rules.specs.Refusals.{Case, First, TakesSlot, openCases, createCases, writeCases, completeCases, askCases, countCases}
 
 -- An outcome o of a call: its refusal number is the first that holds among the call's cases; refused, the outcome is all as it came; granted, it is what
 -- the call does.
@@ -41,14 +43,14 @@ pub record Opening : Type 0 where
   pub answer : Answer
   pub table : Table
 
-abbrev pub openRefused : ℕ → Opening
-openRefused k = record { answer = plain.Refused k; table = opened 1 }
+abbrev pub openRefused : Setting → ℕ → Opening
+openRefused g k = record { answer = plain.Refused k; table = opened g 1 }
 
-abbrev pub openGranted : ℕ → Opening
-openGranted n = record { answer = plain.Granted; table = opened n }
+abbrev pub openGranted : Setting → ℕ → Opening
+openGranted g n = record { answer = plain.Granted; table = opened g n }
 
-abbrev pub Opens : ℕ → Opening → Type 0
-Opens n = Outcome (openCases n) (λ o. plainNumber (o .answer)) openRefused (λ o. o ≡ openGranted n)
+abbrev pub Opens : Setting → ℕ → Opening → Type 0
+Opens g n = Outcome (openCases n) (λ o. plainNumber (o .answer)) (openRefused g) (λ o. o ≡ openGranted g n)
 
 -- CREATE. The paper's refusal number, the patch's number, and hard or soft, for each case of its answer
 abbrev pub createNumber : CreateAnswer → ℕ
@@ -80,15 +82,36 @@ createGranted t image undo c j h = record {
   undo = kept undo image c h;
 }
 
+abbrev pub createJoined : Table → List ℕ → List ℕ → Change → ℕ → Creation
+createJoined t image undo c j = record {
+  answer = create.Granted (slotAt (t .slots) j .number) hold.Hard;
+  table = joined t c j;
+  image = changed image c;
+  undo = undo;
+}
+
 -- the new patch gets the lowest free slot and the number next; the answer gives the number and says hard or soft
-pub record Accepts (t : Table) (image undo : List ℕ) (c : Change) (o : Creation) : Type 0 where
+pub record Takes (t : Table) (image undo : List ℕ) (c : Change) (o : Creation) : Type 0 where
   pub slot : ℕ
   pub hold : Hold
   pub lowest : Lowest slots (FreeSlot (t .slots)) slot
-  pub hard-or-soft : HoldOf (t .slots) (c .block) hold
+  pub hard-or-soft : HoldOf (t .setting) (t .slots) (c .block) hold
   pub number : patchNumber (o .answer) ≡ t .next
   pub says : hardOrSoft (o .answer) ≡ some hold
   pub whole : o ≡ createGranted t image undo c slot hold
+
+-- the change joins the lowest-numbered waiting patch of its block; the answer is that patch's number, and hard
+pub record JoinsOne (t : Table) (image undo : List ℕ) (c : Change) (o : Creation) : Type 0 where
+  pub slot : ℕ
+  pub lowest : LowestNumbered (t .slots) (c .block) slot
+  pub number : patchNumber (o .answer) ≡ slotAt (t .slots) slot .number
+  pub says : hardOrSoft (o .answer) ≡ some hold.Hard
+  pub whole : o ≡ createJoined t image undo c slot
+
+-- a change takes a slot of its own, unless it joins
+pub data Accepts (t : Table) (image undo : List ℕ) (c : Change) (o : Creation) : Type 0 where
+  takes : TakesSlot t c → Takes t image undo c o → Accepts t image undo c o
+  joins : Joins (t .setting) (t .slots) (c .block) → JoinsOne t image undo c o → Accepts t image undo c o
 
 abbrev pub Creates : Table → List ℕ → List ℕ → Change → Creation → Type 0
 Creates t image undo c = Outcome (createCases t image undo c) (λ o. createNumber (o .answer)) (createRefused t image undo) (Accepts t image undo c)

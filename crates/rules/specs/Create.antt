@@ -1,7 +1,7 @@
--- Document 01, "Create".
-use Prim.Native.Nat.{ℕ, _+_, _<_, min, max}
+-- Document 01, "Create", with document 02, request a: small changes share an entry.
+use Prim.Native.Nat.{ℕ, _+_, _≤_, _<_, min, max}
 use mathlib.Core.Path.{_≡_}
-use mathlib.Core.Bool.{Bool, false, cond, _&&_, _||_, not}
+use mathlib.Core.Bool.{Bool, true, false, cond, _&&_, _||_, not}
 use mathlib.Core.List.{List, [], _∷_}
 use lib.Dec.{eqb, ltb}
 use lib.ListN.{length}
@@ -13,9 +13,11 @@ use Rattle.rules.specs.declared.Hold.the-variants as hold
 use Rattle.rules.specs.declared.State.{State}
 use Rattle.rules.specs.declared.State.the-variants as state
 use Rattle.rules.specs.declared.Slot.{Slot}
-use Rattle.rules.specs.Sizes.{slots, rooms, blockStart, roomStart}
-use Rattle.rules.specs.Slots.{withState}
-use Rattle.rules.specs.Table.{Table, slotAt, used, waitsOn, HasRoom, slotsBy, withSlots, withNext}
+use Rattle.rules.specs.declared.Setting.{Setting}
+use Rattle.rules.specs.Sizes.{slots, blockStart, roomStart}
+use Rattle.rules.specs.Settings.{rooms, joins, allSoft}
+use Rattle.rules.specs.Slots.{withState, withBefores}
+use Rattle.rules.specs.Table.{Table, slotAt, used, waitsOn, hardPatchOn, Waits, HasRoom, slotsBy, withSlots, withNext}
 
 -- create takes block, offset, data and named numbers
 pub record Change : Type 0 where
@@ -48,26 +50,30 @@ isNamed ss c i = used ss i && isIn (slotAt ss i .number) (c .named)
 abbrev pub overlaps : List Slot → Change → ℕ → Bool
 overlaps ss c i = used ss i && (eqb (slotAt ss i .block) (c .block) && shares (slotAt ss i .offset) (slotAt ss i .len) (c .offset) (length (c .bytes)))
 
--- the befores of the new patch
+-- the befores of the new patch: these two, and every hard patch of its block, waiting or in flight, overlapping or not
+abbrev pub isBefore : List Slot → Change → ℕ → Bool
+isBefore ss c i = isNamed ss c i || (overlaps ss c i || hardPatchOn ss (c .block) i)
+
 unfoldable pub befores : List Slot → Change → ℕ
-befores ss c = setOf (λ i. isNamed ss c i || overlaps ss c i)
+befores ss c = setOf (isBefore ss c)
 
 -- patch k, on another block, has patch i, waiting on block b, among its befores
 abbrev pub holdsBack : List Slot → ℕ → ℕ → ℕ → Bool
 holdsBack ss b k i = (used ss k && not (eqb (slotAt ss k .block) b)) && (has (slotAt ss k .befores) i && waitsOn ss b i)
 
--- the new patch is hard: no patch on another block has a waiting patch of this block among its befores
-unfoldable pub WouldBeHard : List Slot → ℕ → Type 0
-WouldBeHard ss b = (k i : ℕ) → k < slots → i < slots → holdsBack ss b k i ≡ false
+-- the new patch is hard: no patch on another block has a waiting patch of this block among its befores; where every patch is soft, none is hard
+pub record WouldBeHard (g : Setting) (ss : List Slot) (b : ℕ) : Type 0 where
+  pub not-all-soft : allSoft g ≡ false
+  pub nobody-holds : (k i : ℕ) → k < slots → i < slots → holdsBack ss b k i ≡ false
 
 -- room r is free
 abbrev pub FreeRoom : List Slot → ℕ → Type 0
 FreeRoom ss r = (i : ℕ) → i < slots → HasRoom ss i r → ⊥
 
 -- whether the new patch is hard or soft: a soft creation takes the lowest free room
-pub data HoldOf (ss : List Slot) (b : ℕ) : Hold → Type 0 where
-  hard : WouldBeHard ss b → HoldOf ss b hold.Hard
-  soft : {r : ℕ} → (WouldBeHard ss b → ⊥) → Lowest rooms (FreeRoom ss) r → HoldOf ss b (hold.Soft r)
+pub data HoldOf (g : Setting) (ss : List Slot) (b : ℕ) : Hold → Type 0 where
+  hard : WouldBeHard g ss b → HoldOf g ss b hold.Hard
+  soft : {r : ℕ} → (WouldBeHard g ss b → ⊥) → Lowest (rooms g) (FreeRoom ss) r → HoldOf g ss b (hold.Soft r)
 
 -- a hard creation turns every waiting soft patch of the block hard and frees their rooms; a soft one leaves all as it is
 abbrev pub turnedState : State → State
@@ -122,3 +128,41 @@ oldBytes image c = part image (place c) (length (c .bytes))
 unfoldable pub kept : List ℕ → List ℕ → Change → Hold → List ℕ
 kept undo image c hold.Hard = undo
 kept undo image c (hold.Soft r) = splice undo (roomStart r) (oldBytes image c)
+
+-- ---- joining (document 02, request a)
+
+-- a creation on block b joins a patch: it would be hard, and a patch of the block waits
+pub record Joins (g : Setting) (ss : List Slot) (b : ℕ) : Type 0 where
+  pub joining : joins g ≡ true
+  pub would-be-hard : WouldBeHard g ss b
+  pub some-wait : Waits ss b
+
+-- slot j has the lowest-numbered waiting patch of block b
+pub record LowestNumbered (ss : List Slot) (b j : ℕ) : Type 0 where
+  pub is-slot : j < slots
+  pub waits : waitsOn ss b j ≡ true
+  pub lowest : (i : ℕ) → i < slots → waitsOn ss b i ≡ true → slotAt ss j .number ≤ slotAt ss i .number
+
+-- what a change that joins adds to the befores of the patch: the slots of named numbers on other blocks
+abbrev pub namedElsewhere : List Slot → Change → ℕ → Bool
+namedElsewhere ss c i = isNamed ss c i && not (eqb (slotAt ss i .block) (c .block))
+
+unfoldable pub added : List Slot → Change → ℕ
+added ss c = setOf (namedElsewhere ss c)
+
+-- a slot with the slots of the set m among its befores besides
+abbrev pub withMore : ℕ → Slot → Slot
+withMore m s = withBefores (setOf (λ k. has (s .befores) k || has m k)) s
+
+-- a slot when a change joins a patch of block b: turned as by every hard creation, and where it is the patch's own, `here`, with the set m among its
+-- befores besides; number, block and range stay
+abbrev pub joinedSlot : ℕ → ℕ → Bool → Slot → Slot
+joinedSlot m b here s = cond here (withMore m (turned hold.Hard b s)) (turned hold.Hard b s)
+
+-- the next slots: the change joins the patch of slot j
+unfoldable pub joinedSlots : List Slot → Change → ℕ → List Slot
+joinedSlots ss c j = slotsBy (λ i. joinedSlot (added ss c) (c .block) (eqb i j) (slotAt ss i))
+
+-- the next table; no number is used, and next stays
+unfoldable pub joined : Table → Change → ℕ → Table
+joined t c j = withSlots (joinedSlots (t .slots) c j) t

@@ -1,5 +1,6 @@
--- Document 01, section by section, in its order. docs/READING.md has the section beside each file.
+-- Documents 01 and 02, section by section, in the order of 01. docs/READING.md has the section beside each file.
 pub mod Sizes
+pub mod Settings
 pub mod Slots
 pub mod Table
 pub mod Open

@@ -1,4 +1,4 @@
--- Document 01, "Refusal numbers and their order": a call tests in rising number, among those listed for it, and answers the first that holds.
+-- Document 01, "Refusal numbers and their order", with document 02, request a, for 8 and 9: a call tests in rising number, among those listed for it, and answers the first that holds.
 use Prim.Native.Nat.{ℕ, _+_, _<_, _≤_}
 use mathlib.Core.Path.{_≡_}
 use mathlib.Core.Bool.{true}
@@ -6,9 +6,10 @@ use mathlib.Core.List.{List, [], _∷_}
 use mathlib.Core.Logic.{_⊎_}
 use lib.ListN.{length}
 use Rattle.rules.specs.declared.Slot.{Slot}
-use Rattle.rules.specs.Sizes.{blocks, blockBytes, imageBytes, undoBytes, rooms, slots, mostBytes, mostNamed, lastNumber}
-use Rattle.rules.specs.Table.{Table, waitsOn, fliesOn, Sound, Issued}
-use Rattle.rules.specs.Create.{Change, isIn, WouldBeHard, FreeSlot, FreeRoom}
+use Rattle.rules.specs.Sizes.{blocks, blockBytes, imageBytes, slots, mostBytes, mostNamed, lastNumber}
+use Rattle.rules.specs.Settings.{rooms, undoBytes}
+use Rattle.rules.specs.Table.{Table, Waits, Flies, Sound, Issued}
+use Rattle.rules.specs.Create.{Change, isIn, WouldBeHard, Joins, FreeSlot, FreeRoom}
 use Rattle.rules.specs.Write.{MayGo}
 
 -- a refusal number and what it holds for
@@ -58,25 +59,23 @@ NeverIssued t n = Issued t n → ⊥
 abbrev pub NamesUnissued : Table → Change → Type 0
 NamesUnissued t c = (n : ℕ) × (isIn n (c .named) ≡ true) × NeverIssued t n
 
+-- 8 and 9 are not given to a creation that joins
+abbrev pub TakesSlot : Table → Change → Type 0
+TakesSlot t c = Joins (t .setting) (t .slots) (c .block) → ⊥
+
 -- 8: next is 1,000,000,001
-abbrev pub NoNumber : Table → Type 0
-NoNumber t = t .next ≡ lastNumber + 1
+abbrev pub NoNumber : Table → Change → Type 0
+NoNumber t c = TakesSlot t c × (t .next ≡ lastNumber + 1)
 
 -- 9: no free slot
-abbrev pub NoSlot : List Slot → Type 0
-NoSlot ss = (i : ℕ) → i < slots → FreeSlot ss i → ⊥
+abbrev pub NoSlot : Table → Change → Type 0
+NoSlot t c = TakesSlot t c × ((i : ℕ) → i < slots → FreeSlot (t .slots) i → ⊥)
 
--- 10: the patch would be soft and all 16 rooms are taken
-abbrev pub NoRoom : List Slot → Change → Type 0
-NoRoom ss c = (WouldBeHard ss (c .block) → ⊥) × ((r : ℕ) → r < rooms → FreeRoom ss r → ⊥)
+-- 10: the patch would be soft and all 16 rooms are taken (as many as the setting has)
+abbrev pub NoRoom : Table → Change → Type 0
+NoRoom t c = (WouldBeHard (t .setting) (t .slots) (c .block) → ⊥) × ((r : ℕ) → r < rooms (t .setting) → FreeRoom (t .slots) r → ⊥)
 
--- 11 a patch of the block is in flight; 14: none is
-abbrev pub Flies : List Slot → ℕ → Type 0
-Flies ss b = (i : ℕ) × (i < slots) × (fliesOn ss b i ≡ true)
-
--- some patch of the block waits; 12: none does
-abbrev pub Waits : List Slot → ℕ → Type 0
-Waits ss b = (i : ℕ) × (i < slots) × (waitsOn ss b i ≡ true)
+-- 11: a patch of the block is in flight (Flies); 14: none is. 12: no patch of the block waits (Waits)
 
 -- 13: some wait, and only the empty subset may go
 abbrev pub OnlyEmpty : List Slot → ℕ → Type 0
@@ -92,21 +91,21 @@ openCases n = case 15 (NoFirst n) ∷ []
 
 abbrev pub createCases : Table → List ℕ → List ℕ → Change → List Case
 createCases t image undo c =
-    case 1 (WrongSize imageBytes image ⊎ WrongSize undoBytes undo)
+    case 1 (WrongSize imageBytes image ⊎ WrongSize (undoBytes (t .setting)) undo)
     ∷ case 2 (Unsound t)
     ∷ case 3 (NoBlock (c .block))
     ∷ case 4 (WrongLength c)
     ∷ case 5 (PastEnd c)
     ∷ case 6 (ManyNamed c)
     ∷ case 7 (NamesUnissued t c)
-    ∷ case 8 (NoNumber t)
-    ∷ case 9 (NoSlot (t .slots))
-    ∷ case 10 (NoRoom (t .slots) c)
+    ∷ case 8 (NoNumber t c)
+    ∷ case 9 (NoSlot t c)
+    ∷ case 10 (NoRoom t c)
     ∷ []
 
 abbrev pub writeCases : Table → List ℕ → List ℕ → List ℕ → ℕ → List Case
 writeCases t image undo block b =
-    case 1 (WrongSize imageBytes image ⊎ (WrongSize undoBytes undo ⊎ WrongSize blockBytes block))
+    case 1 (WrongSize imageBytes image ⊎ (WrongSize (undoBytes (t .setting)) undo ⊎ WrongSize blockBytes block))
     ∷ case 2 (Unsound t)
     ∷ case 3 (NoBlock b)
     ∷ case 11 (Flies (t .slots) b)

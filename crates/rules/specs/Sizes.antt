@@ -15,13 +15,7 @@ imageBytes = 16384
 abbrev pub blockStart : ℕ → ℕ
 blockStart b = blockBytes * b
 
--- the undo area: 16 rooms of 64 bytes, numbered 0 to 15
-abbrev pub undoBytes : ℕ
-undoBytes = 1024
-
-abbrev pub rooms : ℕ
-rooms = 16
-
+-- the undo area: rooms of 64 bytes, numbered from 0; Settings.antt says how many
 abbrev pub roomBytes : ℕ
 roomBytes = 64
 

@@ -34,6 +34,14 @@ isHard (state.Waiting hold.Hard) = true
 isHard (state.Waiting (hold.Soft r)) = false
 isHard (state.InFlight k) = false
 
+-- a patch that is hard, waiting or in flight
+abbrev pub isHardPatch : State → Bool
+isHardPatch state.Free = false
+isHardPatch (state.Waiting hold.Hard) = true
+isHardPatch (state.Waiting (hold.Soft r)) = false
+isHardPatch (state.InFlight kind.Hard) = true
+isHardPatch (state.InFlight kind.Soft) = false
+
 -- a patch in the state has the undo room r: a soft waiting one has it, no other patch has a room
 abbrev pub hasRoom : State → ℕ → Bool
 hasRoom state.Free r = false

@@ -6,18 +6,21 @@ use mathlib.Core.List.{List, [], _∷_}
 use lib.Dec.{eqb}
 use lib.ListN.{getD}
 use Rattle.masks.specs.Sets.{has}
+use Rattle.rules.specs.declared.Setting.{Setting}
 use Rattle.rules.specs.declared.Slot.{Slot}
-use Rattle.rules.specs.Sizes.{blocks, blockBytes, rooms, slots, mostBytes, lastNumber}
-use Rattle.rules.specs.Slots.{isUsed, isWaiting, isInFlight, isHard, hasRoom, freeSlot}
+use Rattle.rules.specs.Sizes.{blocks, blockBytes, slots, mostBytes, lastNumber}
+use Rattle.rules.specs.Settings.{rooms}
+use Rattle.rules.specs.Slots.{isUsed, isWaiting, isInFlight, isHard, isHardPatch, hasRoom, freeSlot}
 
--- a table holds its first number, its next number and 64 slots
+-- a table holds its first number, its next number and 64 slots; and the setting that it was opened with
 pub record Table : Type 0 where
+  pub setting : Setting
   pub first : ℕ
   pub next : ℕ
   pub slots : List Slot
 
-abbrev pub tableOf : ℕ → ℕ → List Slot → Table
-tableOf first next ss = record { first = first; next = next; slots = ss }
+abbrev pub tableOf : Setting → ℕ → ℕ → List Slot → Table
+tableOf g first next ss = record { setting = g; first = first; next = next; slots = ss }
 
 -- slot i of the slots of a table
 abbrev pub slotAt : List Slot → ℕ → Slot
@@ -34,10 +37,10 @@ slotsBy f = slotsFrom f 0 slots
 
 -- the table with other slots, and with another next number
 abbrev pub withSlots : List Slot → Table → Table
-withSlots ss t = record { first = t .first; next = t .next; slots = ss }
+withSlots ss t = record { setting = t .setting; first = t .first; next = t .next; slots = ss }
 
 abbrev pub withNext : ℕ → Table → Table
-withNext n t = record { first = t .first; next = n; slots = t .slots }
+withNext n t = record { setting = t .setting; first = t .first; next = n; slots = t .slots }
 
 -- slot i is used
 abbrev pub used : List Slot → ℕ → Bool
@@ -52,6 +55,17 @@ fliesOn ss b i = isInFlight (slotAt ss i .state) && eqb (slotAt ss i .block) b
 
 abbrev pub hardOn : List Slot → ℕ → ℕ → Bool
 hardOn ss b i = isHard (slotAt ss i .state) && eqb (slotAt ss i .block) b
+
+-- slot i holds a hard patch of block b, waiting or in flight
+abbrev pub hardPatchOn : List Slot → ℕ → ℕ → Bool
+hardPatchOn ss b i = isHardPatch (slotAt ss i .state) && eqb (slotAt ss i .block) b
+
+-- some patch of block b waits; some patch of it is in flight
+abbrev pub Waits : List Slot → ℕ → Type 0
+Waits ss b = (i : ℕ) × (i < slots) × (waitsOn ss b i ≡ true)
+
+abbrev pub Flies : List Slot → ℕ → Type 0
+Flies ss b = (i : ℕ) × (i < slots) × (fliesOn ss b i ≡ true)
 
 -- slot i holds a patch that has the undo room r
 abbrev pub HasRoom : List Slot → ℕ → ℕ → Type 0
@@ -78,8 +92,8 @@ pub record Sound (t : Table) : Type 0 where
   -- befores are used slots other than the patch's own
   pub befores-used : (i j : ℕ) → i < slots → j < slots → used (t .slots) i ≡ true → has (slotAt (t .slots) i .befores) j ≡ true → used (t .slots) j ≡ true
   pub befores-other : (i : ℕ) → i < slots → used (t .slots) i ≡ true → has (slotAt (t .slots) i .befores) i ≡ true → ⊥
-  -- rooms are 0 to 15 and no two patches share one
-  pub room-most : (i r : ℕ) → i < slots → HasRoom (t .slots) i r → r < rooms
+  -- rooms are 0 to 15 (as many as the setting has) and no two patches share one
+  pub room-most : (i r : ℕ) → i < slots → HasRoom (t .slots) i r → r < rooms (t .setting)
   pub rooms-differ : (i j r : ℕ) → i < slots → j < slots → HasRoom (t .slots) i r → HasRoom (t .slots) j r → i ≡ j
 
 -- the numbers from first up to next - 1 have been issued, and no other

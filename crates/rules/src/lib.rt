@@ -3,6 +3,14 @@
 pub mod refusals;
 pub mod sizes;
 
+// The setting that a table runs under, from its opening on: the board's; and, for finding out what undo
+// costs, two that do not join and have more rooms, one with every patch soft, one by the hard rule.
+pub enum Setting {
+    Board,
+    AllSoft,
+    HardRule,
+}
+
 // A waiting patch is hard, or soft with its undo room.
 pub enum Hold {
     Hard,
