@@ -15,9 +15,9 @@ use Rattle.rules.specs.Create.{isIn}
 use Rattle.rules.specs.Ask.{askWord, Asked}
 use Rattle.rules.specs.Calls.{Writing, Writes, writeNumber, Asks}
 use Rattle.rules.proofs.Granted.{write-passed}
-use Rattle.demands.specs.History.{History, Accepted, Sent}
-use Rattle.demands.specs.Demand3.{sentIn, NotesTrue}
-use Rattle.demands.proofs.Log.{number-taken, named-earlier}
+use Rattle.demands.specs.History.{History, Accepted, Sent, those}
+use Rattle.demands.specs.Demand3.{onStore, sentIn, hasLanded, NotesTrue}
+use Rattle.demands.proofs.Log.{number-taken, named-earlier, block-one}
 use Rattle.demands.proofs.Notes.{sent-in-both, mem-left}
 use Rattle.demands.proofs.Lookup.{slotOf, carries-used, carries-number, carries-of, at-slot, no-slot}
 use Rattle.demands.proofs.AtSlot.{stateAt, wordOf, isDone, isOut, waiting-word, flying-word, out-flies}
@@ -102,14 +102,29 @@ module _ (h : History) (g : Good h) where
       let gone = no-slot ss n (λ i l f. c .1 i (l, carries-used ss n i f, carries-number ss n i f)) in
       landed-is n (c .0) ∙ ap (λ (x : Option ℕ). isDone (stateAt ss x)) gone
 
+  -- all changes of a number are of the block that it was sent to
+  of-block : (w : Sent) → List·Memᴰ w (h .inFlight ++ h .landed) → (n : ℕ) → isIn n (w .numbers) ≡ true
+      → (a : Accepted) → List·Memᴰ a (h .accepted) → a .number ≡ n → a .change .block ≡ w .block
+  of-block w m n f a k e = let r = g .sent w m n f in block-one a (r .0) (g .numbers) k (r .1) (e ∙ sym (r .2)) ∙ r .3
+
+  -- what a landed write sent is on the store after every cut
+  with-all : (n : ℕ) → Asks (h .table) n ask.Committed → (a : Accepted) → List·Memᴰ a (h .accepted) → a .number ≡ n
+      → (new : ℕ → Bool) → hasLanded new h a ≡ true
+  unfolding hasLanded onStore
+  with-all n p a m e new =
+      sent-in-both (a .number) (those (λ w. new (w .block)) (h .inFlight)) (h .landed)
+      ∙ true-or-r (sentIn (a .number) (those (λ w. new (w .block)) (h .inFlight))) (ap (λ (x : ℕ). sentIn x (h .landed)) e ∙ committed-landed n p)
+
   pub good-notes : NotesTrue h
   good-notes = record {
     issued = issued;
     named = λ y m n e. named-earlier (h .accepted) y (g .older) m n e;
-    known = g .sent;
+    known = λ w m n f. let a = g .sent w m n f in (a .0, a .1, a .2);
+    of-block = of-block;
     once = g .once;
     alone = alone;
     waiting = waiting-unsent;
     flying = flying-out;
     committed = committed-landed;
+    with-all = with-all;
   }

@@ -5,21 +5,20 @@ use mathlib.Core.Bool.{Bool, true, false, cond}
 use borrow.Author.Tests.{eq-eqb, lt-ltb, ltb-true}
 use native.Mathlib.Omega.{arith}
 use lib.Dec.{ltb}
-use mathlib.Core.List.{List, _++_, map, List·Memᴰ}
-use mathlib.Core.Logic.{_≢_}
+use mathlib.Core.List.{List, _∷_, _++_, map, List·Memᴰ}
+use mathlib.Core.Logic.{_≢_, _⊎_, inl, inr}
 use mathlib.Core.Option.{Option, none, some}
 use lib.ListN.{length, getD}
 use Rattle.rules.specs.declared.Slot.{Slot}
 use Rattle.rules.specs.Sizes.{imageBytes, roomStart, roomBytes}
-use Rattle.rules.specs.Table.{slotAt, Sound}
+use Rattle.rules.specs.Table.{slotAt, Flies, Sound}
 use Rattle.rules.specs.Create.{isIn}
-use Rattle.rules.specs.Refusals.{Flies}
 use Rattle.ground.proofs.Decided.{true-and}
 use Rattle.cut.specs.Changes.{Logged}
 use Rattle.cut.specs.World.{World, inFlight, committed}
 use Rattle.cut.proofs.Invariant.{Invariant}
 use Rattle.demands.specs.History.{History, Accepted, Sent}
-use Rattle.demands.specs.Demand3.{written, sentIn, timesSent}
+use Rattle.demands.specs.Demand3.{written, sentIn, timesSent, Earlier}
 use Rattle.demands.proofs.Log.{plain, Numbered, NamesOlder, block-one}
 use Rattle.demands.proofs.Views.{view, Within}
 use Rattle.demands.proofs.Notes.{AllWhole, mem-left}
@@ -27,12 +26,23 @@ use Rattle.demands.proofs.Lookup.{slotOf, slot-carries}
 use Rattle.demands.proofs.AtSlot.{stateAt, wordOf, roomedOf, roomFor, Tied, isDone, isOut, word-flying}
 use Rattle.demands.proofs.Linked.{Linked}
 
--- y's caller named x's number
+-- y's caller named the number of x, which was accepted earlier: what AskedFor of specs/Demand3.antt says, of the log that `cut` sees
 pub record Names (l : List Accepted) (y x : Logged) : Type 0 where
   pub asker : Accepted
-  pub accepted : List·Memᴰ asker l
+  pub askedFor : Accepted
+  pub earlier : Earlier l asker askedFor
+  pub named : isIn (askedFor .number) (asker .change .named) ≡ true
   pub is : plain asker ≡ y
-  pub named : isIn (x .number) (asker .change .named) ≡ true
+  pub itsIs : plain askedFor ≡ x
+
+-- who asks in a log with one more change, and did not before, is that change
+pub newly-asked : (a : Accepted) (older : List Accepted) (y x : Logged) → Names (a ∷ older) y x → Names older y x ⊎ (y ≡ plain a)
+newly-asked a older y x n = go (n .earlier) (n .named) (n .is) (n .itsIs)
+  where
+    go : {p q : Accepted} → Earlier (a ∷ older) p q → isIn (q .number) (p .change .named) ≡ true → plain p ≡ y → plain q ≡ x
+        → Names older y x ⊎ (y ≡ plain a)
+    go (Earlier.here m) e same its = inr (sym same)
+    go {p} {q} (Earlier.there f) e same its = inl (record { asker = p; askedFor = q; earlier = f; named = e; is = same; itsIs = its })
 
 -- byte n of a room; past the room nothing is seen
 unfoldable pub roomByte : List ℕ → ℕ → ℕ → ℕ

@@ -5,13 +5,16 @@ use native.Mathlib.Decide.{ℕ-discrete}
 use mathlib.Core.Path.{_≡_, refl, sym, ap, subst}
 use mathlib.Core.List.{List, [], List·Memᴰ·not-nil}
 use lib.ListN.{length}
+use Rattle.rules.specs.declared.Setting.{Setting}
 use Rattle.rules.specs.Sizes.{imageBytes}
 use Rattle.rules.specs.Table.{Table}
 use Rattle.rules.specs.Open.{opened}
-use Rattle.rules.specs.Create.{Change, accepted}
+use Rattle.rules.specs.Create.{Change, accepted, joined}
+use Rattle.rules.specs.Passed.{CreatePassed}
 use Rattle.rules.specs.Write.{sent}
 use Rattle.rules.specs.Complete.{completed}
-use Rattle.rules.specs.Calls.{Opening, Opens, plainNumber, Creation, Creates, createNumber, Writing, Writes, writeNumber, Completion, Completes}
+use Rattle.rules.specs.Calls.{Opening, Opens, plainNumber, Creation, Creates, Accepts, createNumber, Writing, Writes, writeNumber}
+use Rattle.rules.specs.Calls.{Completion, Completes}
 use Rattle.rules.proofs.Granted.{create-passed, write-passed}
 use Rattle.rules.proofs.SoundCalls.{open-sound}
 use Rattle.cut.proofs.Core.{open-invariant}
@@ -20,23 +23,24 @@ use Rattle.demands.specs.Demand3.{written, timesSent}
 use Rattle.demands.proofs.Log.{Numbered, oldest-in, newer-in}
 use Rattle.demands.proofs.Good.{Good}
 use Rattle.demands.proofs.Create.Leaves.{created-good}
+use Rattle.demands.proofs.Join.Leaves.{joined-good}
 use Rattle.demands.proofs.Write.Leaves.{gone-good}
 use Rattle.demands.proofs.Complete.Leaves.{landed-good}
 
 -- ---- open
 
-opened-at : (n : ℕ) (o : Opening) → Opens n o → (m : ℕ) × (o .table ≡ opened m)
-opened-at n o p = go (ℕ-discrete (plainNumber (o .answer)) 0)
+opened-at : (g : Setting) (n : ℕ) (o : Opening) → Opens g n o → (m : ℕ) × (o .table ≡ opened g m)
+opened-at g n o p = go (ℕ-discrete (plainNumber (o .answer)) 0)
   where
-    go : Dec (plainNumber (o .answer) ≡ 0) → (m : ℕ) × (o .table ≡ opened m)
+    go : Dec (plainNumber (o .answer) ≡ 0) → (m : ℕ) × (o .table ≡ opened g m)
     go (yes z) = (n, ap (λ (x : Opening). x .table) (p .grant z))
     go (no d) = (1, ap (λ (x : Opening). x .table) (p .refusal d))
 
-begun-good : (n : ℕ) (o : Opening) (store undo : List ℕ) → Opens n o → length store ≡ imageBytes → Good (begun o store undo)
+begun-good : (g : Setting) (n : ℕ) (o : Opening) (store undo : List ℕ) → Opens g n o → length store ≡ imageBytes → Good (begun o store undo)
 unfolding begun written timesSent
-begun-good n o store undo p e = record {
-  sound = open-sound n o p;
-  numbers = let m = opened-at n o p in subst (λ (t : Table). Numbered (t .first) [] (t .next)) (sym (m .1)) Numbered.begins;
+begun-good g n o store undo p e = record {
+  sound = open-sound g n o p;
+  numbers = let m = opened-at g n o p in subst (λ (t : Table). Numbered (t .first) [] (t .next)) (sym (m .1)) Numbered.begins;
   older = tt;
   linked = record {
     block = λ a m. absurd (List·Memᴰ·not-nil m);
@@ -59,15 +63,19 @@ begun-good n o store undo p e = record {
 module _ (h : History) (g : Good h) where
   -- ---- create
   create-good : (c : Change) (o : Creation) → Creates (h .table) (h .image) (h .undo) c o → Good (afterCreate h c o)
-  unfolding afterCreate accepted
+  unfolding afterCreate accepted joined
   create-good c o p = go (ℕ-discrete (createNumber (o .answer)) 0)
     where
+      granted : CreatePassed (h .table) (h .image) (h .undo) c → Accepts (h .table) (h .image) (h .undo) c o → Good (afterCreate h c o)
+      granted v (Accepts.takes own a) =
+          subst (λ (x : Creation). Good (afterCreate h c x)) (sym (a .whole))
+          (created-good (record { good = g; lowest = a .lowest; own = own; held = a .hard-or-soft; passed = v }))
+      granted v (Accepts.joins does a) =
+          subst (λ (x : Creation). Good (afterCreate h c x)) (sym (a .whole)) (joined-good (record { good = g; lowest = a .lowest; ready = v .ready }))
+
       go : Dec (createNumber (o .answer) ≡ 0) → Good (afterCreate h c o)
       go (no d) = subst (λ (x : Creation). Good (afterCreate h c x)) (sym (p .refusal d)) g
-      go (yes z) =
-          let a = p .grant z in
-          subst (λ (x : Creation). Good (afterCreate h c x)) (sym (a .whole))
-          (created-good (record { good = g; lowest = a .lowest; held = a .hard-or-soft; passed = create-passed p z }))
+      go (yes z) = granted (create-passed p z) (p .grant z)
 
   -- ---- write
   write-good : (b : ℕ) (lent : List ℕ) (o : Writing) → Writes (h .table) (h .image) (h .undo) lent b o → Good (afterWrite h b o)
@@ -98,5 +106,5 @@ call-good g (Call.asks n a p) = g
 call-good g (Call.counts b a p) = g
 
 pub happened-good : {h : History} → Happened h → Good h
-happened-good (Happened.opens n o store undo p e) = begun-good n o store undo p e
+happened-good (Happened.opens g n o store undo p e) = begun-good g n o store undo p e
 happened-good (Happened.calls w c) = call-good (happened-good w) c

@@ -7,6 +7,7 @@ pub mod AtSlot
 pub mod Linked
 pub mod Good
 pub mod Create
+pub mod Join
 pub mod Complete
 pub mod Write
 pub mod Histories

@@ -2,15 +2,17 @@
 -- numbers, blocks and ranges.
 use Prim.Native.Nat.{ℕ, _<_}
 use mathlib.Core.Path.{_≡_, refl, sym, _∙_, ap, subst}
-use mathlib.Core.Bool.{true}
+use mathlib.Core.Bool.{Bool, true, _||_}
 use mathlib.Core.List.{List, List·Memᴰ}
 use mathlib.Core.Option.{Option, none, some}
-use Rattle.ground.proofs.Decided.{clash}
+use mathlib.Core.Logic.{⊎-elim}
+use lib.Dec.{eqb}
+use Rattle.ground.proofs.Decided.{clash, and-true, true-and, or-true, true-or-l, true-or-r}
 use lib.ListN.{length}
 use Rattle.rules.specs.declared.Slot.{Slot}
 use Rattle.rules.specs.Sizes.{slots}
-use Rattle.rules.specs.Slots.{hasRoom, roomOf}
-use Rattle.rules.specs.Table.{slotAt, used}
+use Rattle.rules.specs.Slots.{isHardPatch, hasRoom, roomOf}
+use Rattle.rules.specs.Table.{slotAt, used, hardPatchOn}
 use Rattle.rules.specs.Create.{overlaps}
 use Rattle.rules.proofs.Words.{roomed-used, room-is}
 use Rattle.rules.proofs.StaysSound.{Like}
@@ -29,6 +31,10 @@ pub record Range (s : Slot) (c : Logged) : Type 0 where
 abbrev pub Has : List Slot → Accepted → ℕ → Type 0
 Has ss a i = (i < slots) × (carries ss (a .number) i ≡ true)
 
+-- the patch of slot i is one that a change y of its block must follow, named or not
+abbrev pub toldOf : List Slot → Accepted → ℕ → Bool
+toldOf ss y i = overlaps ss (y .change) i || hardPatchOn ss (y .change .block) i
+
 pub record Linked (ss : List Slot) (l : List Accepted) : Type 0 where
   -- it is a patch of the change's block: create
   pub block : (a : Accepted) → List·Memᴰ a l → (i : ℕ) → Has ss a i → slotAt ss i .block ≡ a .change .block
@@ -36,8 +42,8 @@ pub record Linked (ss : List Slot) (l : List Accepted) : Type 0 where
   pub range : (a : Accepted) → Oldest l a → (i : ℕ) → Has ss a i → Range (slotAt ss i) (plain a)
   -- a patch with a room stands for one change, so that its room has the old bytes of all that it stands for: create
   pub single : (i : ℕ) → i < slots → roomed (slotAt ss i .state) ≡ true → Once (slotAt ss i .number) l
-  -- whoever shares a byte with the change is told so by the rules' own test on its slot, whichever range that has: create
-  pub told : (a : Accepted) → List·Memᴰ a l → (i : ℕ) → Has ss a i → (y : Accepted) → Share (plain y) (plain a) → overlaps ss (y .change) i ≡ true
+  -- whoever shares a byte with the change is told so by the rules' own tests on its slot, by its range or since it is hard: create
+  pub told : (a : Accepted) → List·Memᴰ a l → (i : ℕ) → Has ss a i → (y : Accepted) → Share (plain y) (plain a) → toldOf ss y i ≡ true
 
 -- a slot that is like another has a room only if that one has it
 pub like-room : {n s : Slot} → Like n s → roomed (n .state) ≡ true → (roomed (s .state) ≡ true) × (roomOf (n .state) ≡ roomOf (s .state))
@@ -56,8 +62,19 @@ module _ (ss ss′ : List Slot) (i : ℕ) (k : Like (slotAt ss′ i) (slotAt ss 
   pub range-still : (c : Logged) → Range (slotAt ss i) c → Range (slotAt ss′ i) c
   range-still c r = record { offset = k .offset ∙ r .offset; len = k .len ∙ r .len }
 
-  pub overlaps-still : (y : Accepted) → overlaps ss (y .change) i ≡ true → overlaps ss′ (y .change) i ≡ true
+  overlaps-still : (y : Accepted) → overlaps ss (y .change) i ≡ true → overlaps ss′ (y .change) i ≡ true
   overlaps-still y e = cc
+
+  hard-still : (b : ℕ) → hardPatchOn ss b i ≡ true → hardPatchOn ss′ b i ≡ true
+  hard-still b e =
+      let w = and-true (isHardPatch (slotAt ss i .state)) _ e in
+      true-and (k .hard (w .0)) (ap (λ (x : ℕ). eqb x b) (k .block) ∙ w .1)
+
+  pub told-still : (y : Accepted) → toldOf ss y i ≡ true → toldOf ss′ y i ≡ true
+  told-still y e =
+      ⊎-elim (λ o. true-or-l (hardPatchOn ss′ (y .change .block) i) (overlaps-still y o))
+      (λ f. true-or-r (overlaps ss′ (y .change) i) (hard-still (y .change .block) f))
+      (or-true (overlaps ss (y .change) i) (hardPatchOn ss (y .change .block) i) e)
 
 -- every slot in use afterwards is one as it was
 pub linked-kept : (ss ss′ : List Slot) (l : List Accepted) → ((i : ℕ) → i < slots → used ss′ i ≡ true → Like (slotAt ss′ i) (slotAt ss i))
@@ -68,7 +85,7 @@ linked-kept ss ss′ l like k = record {
   single = λ i h e.
       let q = like i h (roomed-used (slotAt ss′ i .state) (roomOf (slotAt ss′ i .state)) e) in
       subst (λ (n : ℕ). Once n l) (sym (q .number)) (k .single i h (like-room q e .0));
-  told = λ a m i h y s. overlaps-still ss ss′ i (near a i h) y (k .told a m i (had a i h) y s);
+  told = λ a m i h y s. told-still ss ss′ i (near a i h) y (k .told a m i (had a i h) y s);
 }
   where
     near : (a : Accepted) (i : ℕ) → Has ss′ a i → Like (slotAt ss′ i) (slotAt ss i)

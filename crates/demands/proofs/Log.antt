@@ -1,5 +1,5 @@
 -- The log: the accepted changes by their places in it, newest first, and what their numbers say. A number may stand for several changes: one that joins has
--- the number of an older change of its block. (No call makes such a change yet.)
+-- the number of an older change of its block.
 use Prim.Native.Nat.{ℕ, _+_, _≤_, _<_}
 use native.Mathlib.Omega.{arith}
 use mathlib.Core.Path.{_≡_, refl, sym, _∙_, ap, subst}

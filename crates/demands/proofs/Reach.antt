@@ -17,7 +17,7 @@ use Rattle.rules.specs.declared.Hold.the-variants as hold
 use Rattle.rules.specs.Sizes.{roomStart}
 use Rattle.rules.specs.Table.{Table}
 use Rattle.rules.specs.Create.{Change, place, changed, kept, oldBytes}
-use Rattle.rules.specs.Calls.{Creation, Creates, createGranted, createNumber, Writing, Writes, writeNumber}
+use Rattle.rules.specs.Calls.{Creation, Creates, Accepts, createGranted, createJoined, createNumber, Writing, Writes, writeNumber}
 use Rattle.demands.specs.History.{Accepted}
 use Rattle.demands.specs.Demand3.{carriedOut}
 use Rattle.demands.specs.QuestionSeven.{SameBut, CreateReaches, names, Holds}
@@ -49,9 +49,22 @@ reaches t image undo c j (hold.Soft q) = record {
       (laid undo (roomStart q) (length (c .bytes)) (oldBytes image c) (shorter image c));
 }
 
+-- a change that joins is hard, and takes no room
+reaches-joined : (t : Table) (image undo : List ℕ) (c : Change) (j : ℕ) → CreateReaches image undo c (createJoined t image undo c j)
+unfolding changed
+reaches-joined t image undo c j = record {
+  in-image = laid image (place c) (length (c .bytes)) (c .bytes) (omega arith);
+  hard = λ e. refl;
+  soft = λ r e. absurd (let z : _≡_ {A = ℕ} 0 1 = cc in omega arith);
+}
+
 pub create-reaches : (t : Table) (image undo : List ℕ) (c : Change) (o : Creation) → Creates t image undo c o → createNumber (o .answer) ≡ 0
     → CreateReaches image undo c o
-create-reaches t image undo c o p z = let a = p .grant z in subst (CreateReaches image undo c) (sym (a .whole)) (reaches t image undo c (a .slot) (a .hold))
+create-reaches t image undo c o p z = go (p .grant z)
+  where
+    go : Accepts t image undo c o → CreateReaches image undo c o
+    go (Accepts.takes own a) = subst (CreateReaches image undo c) (sym (a .whole)) (reaches t image undo c (a .slot) (a .hold))
+    go (Accepts.joins does a) = subst (CreateReaches image undo c) (sym (a .whole)) (reaches-joined t image undo c (a .slot))
 
 pub write-reaches : (t : Table) (image undo block : List ℕ) (b : ℕ) (o : Writing) → Writes t image undo block b o → (o .image ≡ image) × (o .undo ≡ undo)
 write-reaches t image undo block b o p = go (ℕ-discrete (writeNumber (o .answer)) 0)

@@ -93,7 +93,7 @@ module _ (h : History) (g : Good h) (new : ℕ → Bool) where
   asked : (y x : Accepted) → AskedFor h y x → world.AskedEarlier (radio.world h) (plain y) (plain x)
   asked y x a = record {
     earlier = earlier-log y x (a .earlier);
-    asks = record { asker = y; accepted = newer-in (a .earlier); is = refl; named = a .named };
+    asks = record { asker = y; askedFor = x; earlier = a .earlier; named = a .named; is = refl; itsIs = refl };
   }
 
   follows : (y x : Accepted) → Follows h y x → world.AskedThrough (radio.world h) (plain y) (plain x)

@@ -47,7 +47,8 @@ pub data Earlier : List Accepted → Accepted → Accepted → Type 0 where
   -- or both are among the older ones, in this order
   there : {a y x : Accepted} {older : List Accepted} → Earlier older y x → Earlier (a ∷ older) y x
 
--- y asked to have x before it: x was accepted earlier, and y's caller named x's number
+-- y asked to have x before it: x was accepted earlier, and y's caller named x's number. Of several changes that were answered one number these are those
+-- accepted before y, and no later one
 pub record AskedFor (h : History) (y x : Accepted) : Type 0 where
   pub earlier : Earlier (h .accepted) y x
   pub named : isIn (x .number) (y .change .named) ≡ true
@@ -80,9 +81,11 @@ pub record NotesTrue (h : History) : Type 0 where
   -- and every number that a change named is that of one accepted earlier
   pub named : (y : Accepted) → List·Memᴰ y (h .accepted) → (n : ℕ) → isIn n (y .change .named) ≡ true
       → (x : Accepted) × Earlier (h .accepted) y x × (x .number ≡ n)
-  -- every number sent is that of an accepted change of the write's block
+  -- every number sent is that of at least one accepted change, and every change that was answered it is of the write's block
   pub known : (w : Sent) → List·Memᴰ w (h .inFlight ++ h .landed) → (n : ℕ) → isIn n (w .numbers) ≡ true
-      → (a : Accepted) × List·Memᴰ a (h .accepted) × (a .number ≡ n) × (a .change .block ≡ w .block)
+      → (a : Accepted) × List·Memᴰ a (h .accepted) × (a .number ≡ n)
+  pub of-block : (w : Sent) → List·Memᴰ w (h .inFlight ++ h .landed) → (n : ℕ) → isIn n (w .numbers) ≡ true
+      → (a : Accepted) → List·Memᴰ a (h .accepted) → a .number ≡ n → a .change .block ≡ w .block
   -- and it was sent once
   pub once : (n : ℕ) → timesSent n (h .inFlight ++ h .landed) ≤ 1
   -- a granted write finds nothing in flight to its block
@@ -92,8 +95,10 @@ pub record NotesTrue (h : History) : Type 0 where
   pub waiting : (n : ℕ) → Asks (h .table) n ask.Waiting → sentIn n (h .inFlight ++ h .landed) ≡ false
   -- one that it calls in flight is in a write that is out
   pub flying : (n : ℕ) → Asks (h .table) n ask.InFlight → sentIn n (h .inFlight) ≡ true
-  -- and one that it calls committed is a landed one
+  -- and one that it calls committed is a landed one: whatever a cut lets be, it is on the store with all its changes
   pub committed : (n : ℕ) → Asks (h .table) n ask.Committed → sentIn n (h .landed) ≡ true
+  pub with-all : (n : ℕ) → Asks (h .table) n ask.Committed → (a : Accepted) → List·Memᴰ a (h .accepted) → a .number ≡ n
+      → (new : ℕ → Bool) → hasLanded new h a ≡ true
 
 -- the history h with any further calls
 pub data Later (h : History) : History → Type 0 where

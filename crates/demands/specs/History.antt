@@ -8,6 +8,7 @@ use mathlib.Core.List.{List, [], _∷_, _++_}
 use lib.Dec.{eqb}
 use lib.ListN.{length}
 use Rattle.masks.specs.Sets.{has}
+use Rattle.rules.specs.declared.Setting.{Setting}
 use Rattle.rules.specs.declared.CreateAnswer.{CreateAnswer}
 use Rattle.rules.specs.declared.CreateAnswer.the-variants as create
 use Rattle.rules.specs.declared.WriteAnswer.{WriteAnswer}
@@ -121,7 +122,7 @@ pub data Call (h : History) : History → Type 0 where
   asks : (n : ℕ) (a : AskAnswer) → Asks (h .table) n a → Call h h
   counts : (b : ℕ) (a : CountAnswer) → Counts (h .table) b a → Call h h
 
--- a history that can be: any first number, granted or refused, any store of 16,384 bytes, any undo area, and any calls
+-- a history that can be: under any setting, any first number, granted or refused, any store of 16,384 bytes, any undo area, and any calls
 pub data Happened : History → Type 0 where
-  opens : (n : ℕ) (o : Opening) (store undo : List ℕ) → Opens n o → length store ≡ imageBytes → Happened (begun o store undo)
+  opens : (g : Setting) (n : ℕ) (o : Opening) (store undo : List ℕ) → Opens g n o → length store ≡ imageBytes → Happened (begun o store undo)
   calls : {h h′ : History} → Happened h → Call h h′ → Happened h′

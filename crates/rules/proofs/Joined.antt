@@ -9,7 +9,7 @@ use borrow.Author.Tests.{eqb-true, not-true}
 use lib.Dec.{eqb}
 use Rattle.masks.specs.Sets.{has, setOf}
 use Rattle.masks.proofs.Laws.{has-set, has-slot, set-lt}
-use Rattle.ground.proofs.Decided.{clash, and-true, or-true}
+use Rattle.ground.proofs.Decided.{clash, and-true, or-true, true-or-l, true-or-r}
 use Rattle.rules.specs.declared.Hold.the-variants as hold
 use Rattle.rules.specs.declared.Slot.{Slot}
 use Rattle.rules.specs.Sizes.{slots}
@@ -25,11 +25,15 @@ pub added-is : (ss : List Slot) (c : Change) (k : ℕ) → has (added ss c) k �
 unfolding added
 added-is ss c k h = sym (has-set (namedElsewhere ss c) k (has-slot (added ss c) k (set-lt (namedElsewhere ss c)) h)) ∙ h
 
+pub is-added : (ss : List Slot) (c : Change) (k : ℕ) → k < slots → namedElsewhere ss c k ≡ true → has (added ss c) k ≡ true
+unfolding added
+is-added ss c k l e = has-set (namedElsewhere ss c) k l ∙ e
+
 -- the slot that is joined, and every other, are as they were but for state and befores
 pub joined-like : (m b : ℕ) (here : Bool) (s : Slot) → Like (joinedSlot m b here s) s
 joined-like m b true s =
     let k = turned-like hold.Hard b s in
-    record { used = k .used; number = k .number; block = k .block; offset = k .offset; len = k .len; hard = k .hard; room = k .room }
+    record { used = k .used; number = k .number; block = k .block; offset = k .offset; len = k .len; hard = k .hard; flies = k .flies; room = k .room }
 joined-like m b false s = turned-like hold.Hard b s
 
 -- a before is one that it had, or, of the slot that is joined, one that is added
@@ -40,6 +44,22 @@ joined-before m b true s k h =
     ⊎-elim (λ e. inl (subst (λ (x : ℕ). has x k ≡ true) (turned-befores hold.Hard b s) e)) (λ e. inr (refl, e))
     (or-true (has (turned hold.Hard b s .befores) k) (has m k) (sym (has-set p k (has-slot (setOf p) k (set-lt p) h)) ∙ h))
 joined-before m b false s k h = inl (subst (λ (x : ℕ). has x k ≡ true) (turned-befores hold.Hard b s) h)
+
+-- what it had stays, and what is added is there
+pub joined-keeps : (m b : ℕ) (here : Bool) (s : Slot) (k : ℕ) → k < slots → has (s .befores) k ≡ true → has (joinedSlot m b here s .befores) k ≡ true
+joined-keeps m b true s k l h =
+    has-set (λ k. has (turned hold.Hard b s .befores) k || has m k) k l
+    ∙ true-or-l (has m k) (subst (λ (x : ℕ). has x k ≡ true) (sym (turned-befores hold.Hard b s)) h)
+joined-keeps m b false s k l h = subst (λ (x : ℕ). has x k ≡ true) (sym (turned-befores hold.Hard b s)) h
+
+pub joined-adds : (m b : ℕ) (s : Slot) (k : ℕ) → k < slots → has m k ≡ true → has (joinedSlot m b true s .befores) k ≡ true
+joined-adds m b s k l h =
+    has-set (λ k. has (turned hold.Hard b s .befores) k || has m k) k l ∙ true-or-r (has (turned hold.Hard b s .befores) k) h
+
+-- its state is as every hard creation leaves it
+pub joined-state : (m b : ℕ) (here : Bool) (s : Slot) → joinedSlot m b here s .state ≡ turned hold.Hard b s .state
+joined-state m b true s = refl
+joined-state m b false s = refl
 
 pub joined-sound : (t : Table) (c : Change) (j : ℕ) → Sound t → LowestNumbered (t .slots) (c .block) j → Sound (joined t c j)
 unfolding joined

@@ -19,7 +19,7 @@ use Rattle.rules.specs.declared.Setting.{Setting}
 use Rattle.rules.specs.declared.Slot.{Slot}
 use Rattle.rules.specs.Sizes.{blocks, blockBytes, slots, mostBytes, lastNumber}
 use Rattle.rules.specs.Settings.{rooms}
-use Rattle.rules.specs.Slots.{isUsed, isHardPatch, hasRoom, freeSlot, withState}
+use Rattle.rules.specs.Slots.{isUsed, isInFlight, isHardPatch, hasRoom, freeSlot, withState}
 use Rattle.rules.specs.Table.{Table, slotAt, slotsBy, withSlots, withNext, used, fliesOn, hardPatchOn, HasRoom, Sound}
 use Rattle.rules.specs.Open.{opened}
 use Rattle.masks.specs.Lowest.{Lowest}
@@ -29,11 +29,12 @@ use Rattle.rules.specs.Write.{sentState, sentSlot, sentSlots, sent}
 use Rattle.rules.specs.Complete.{withoutBefores, landing, completedSlots, completed}
 use Rattle.rules.proofs.After.{accepted-at, sent-at, completed-at, befores-at}
 use Rattle.rules.proofs.SlotsBy.{slot-by}
-use Rattle.rules.proofs.Words.{has-room-used, room-is, hard-patch-used, turned-used, turned-hard, turned-room, sent-used, sent-hard, sent-room}
+use Rattle.rules.proofs.Words.{has-room-used, room-is, hard-patch-used, turned-used, turned-hard, turned-flies, turned-room, sent-used}
+use Rattle.rules.proofs.Words.{sent-hard, sent-flies, sent-room}
 use Rattle.rules.specs.Refusals.{TakesSlot}
 use Rattle.rules.specs.Passed.{CreatePassed}
 
--- the slot n is the slot s, but for its state, where it has no new room and what was hard is, and for its befores
+-- the slot n is the slot s, but for its befores and its state, where it has no new room, and what was hard or in flight is so still
 pub record Like (n s : Slot) : Type 0 where
   pub used : isUsed (n .state) ≡ isUsed (s .state)
   pub number : n .number ≡ s .number
@@ -41,16 +42,18 @@ pub record Like (n s : Slot) : Type 0 where
   pub offset : n .offset ≡ s .offset
   pub len : n .len ≡ s .len
   pub hard : isHardPatch (s .state) ≡ true → isHardPatch (n .state) ≡ true
+  pub flies : isInFlight (s .state) ≡ true → isInFlight (n .state) ≡ true
   pub room : (r : ℕ) → hasRoom (n .state) r ≡ true → hasRoom (s .state) r ≡ true
 
 pub like-self : (s : Slot) → Like s s
-like-self s = record { used = refl; number = refl; block = refl; offset = refl; len = refl; hard = λ e. e; room = λ r e. e }
+like-self s = record { used = refl; number = refl; block = refl; offset = refl; len = refl; hard = λ e. e; flies = λ e. e; room = λ r e. e }
 
--- a slot with another state, where that is in use and hard as before and has no new room
+-- a slot with another state, where that keeps these words
 state-like : (b : Bool) (u : State) (s : Slot) → isUsed u ≡ isUsed (s .state) → (isHardPatch (s .state) ≡ true → isHardPatch u ≡ true)
-    → ((r : ℕ) → hasRoom u r ≡ true → hasRoom (s .state) r ≡ true) → Like (cond b (withState u s) s) s
-state-like true u s e g f = record { used = e; number = refl; block = refl; offset = refl; len = refl; hard = g; room = f }
-state-like false u s e g f = like-self s
+    → (isInFlight (s .state) ≡ true → isInFlight u ≡ true) → ((r : ℕ) → hasRoom u r ≡ true → hasRoom (s .state) r ≡ true)
+    → Like (cond b (withState u s) s) s
+state-like true u s e g k f = record { used = e; number = refl; block = refl; offset = refl; len = refl; hard = g; flies = k; room = f }
+state-like false u s e g k f = like-self s
 
 -- its befores stay
 state-befores : (b : Bool) (u : State) (s : Slot) → cond b (withState u s) s .befores ≡ s .befores
@@ -114,7 +117,7 @@ opened-sound g n a b = record {
 -- ---- write
 
 pub sent-like : (goes : Bool) (s : Slot) → Like (sentSlot goes s) s
-sent-like goes s = state-like goes (sentState (s .state)) s (sent-used (s .state)) (sent-hard (s .state)) (sent-room (s .state))
+sent-like goes s = state-like goes (sentState (s .state)) s (sent-used (s .state)) (sent-hard (s .state)) (sent-flies (s .state)) (sent-room (s .state))
 
 pub sent-sound : (t : Table) (set : ℕ) → Sound t → Sound (sent t set)
 unfolding sent
@@ -157,7 +160,7 @@ remaining-was ss b s k h =
 
 pub remaining-like : (ss : List Slot) (b : ℕ) (s : Slot) → Like (withoutBefores (landing ss b) s) s
 remaining-like ss b s =
-    record { used = refl; number = refl; block = refl; offset = refl; len = refl; hard = λ e. e; room = λ r e. e }
+    record { used = refl; number = refl; block = refl; offset = refl; len = refl; hard = λ e. e; flies = λ e. e; room = λ r e. e }
 
 pub completed-sound : (t : Table) (b : ℕ) → Sound t → Sound (completed t b)
 unfolding completed
@@ -259,7 +262,8 @@ module _ (t : Table) (s : Sound t) (ss : List Slot) (j : ℕ) (p : Slot) (jl : j
 
 pub turned-like : (h : Hold) (b : ℕ) (s : Slot) → Like (turned h b s) s
 turned-like hold.Hard b s =
-    state-like (eqb (s .block) b) (turnedState (s .state)) s (turned-used (s .state)) (turned-hard (s .state)) (turned-room (s .state))
+    state-like (eqb (s .block) b) (turnedState (s .state)) s (turned-used (s .state)) (turned-hard (s .state)) (turned-flies (s .state))
+    (turned-room (s .state))
 turned-like (hold.Soft r) b s = like-self s
 
 pub turned-befores : (h : Hold) (b : ℕ) (s : Slot) → turned h b s .befores ≡ s .befores

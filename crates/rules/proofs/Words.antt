@@ -4,6 +4,7 @@ use Prim.Native.Nat.{ℕ, _<_}
 use mathlib.Core.Path.{_≡_, refl, sym}
 use mathlib.Core.Bool.{true}
 use mathlib.Core.List.{List}
+use mathlib.Core.Logic.{_⊎_, inl, inr}
 use borrow.Author.Tests.{eq-eqb, eqb-true}
 use lib.Dec.{eqb}
 use Rattle.ground.proofs.Decided.{clash, and-true, true-and}
@@ -40,6 +41,23 @@ hard-is-patch (state.Waiting hold.Hard) e = refl
 hard-is-patch (state.Waiting (hold.Soft r)) e = e
 hard-is-patch (state.InFlight k) e = absurd (clash e refl)
 
+-- a waiting patch is hard once it is turned, and a hard one that waits is a hard waiting one
+pub waiting-turned : (u : State) → isWaiting u ≡ true → isHard (turnedState u) ≡ true
+waiting-turned state.Free e = e
+waiting-turned (state.Waiting h) e = refl
+waiting-turned (state.InFlight k) e = e
+
+pub hard-or-flies : (u : State) → isHardPatch u ≡ true → (isHard u ≡ true) ⊎ (isInFlight u ≡ true)
+hard-or-flies state.Free e = inl e
+hard-or-flies (state.Waiting hold.Hard) e = inl refl
+hard-or-flies (state.Waiting (hold.Soft r)) e = inl e
+hard-or-flies (state.InFlight k) e = inr refl
+
+pub used-waits-or-flies : (u : State) → isUsed u ≡ true → (isWaiting u ≡ true) ⊎ (isInFlight u ≡ true)
+used-waits-or-flies state.Free e = inl e
+used-waits-or-flies (state.Waiting h) e = inl refl
+used-waits-or-flies (state.InFlight k) e = inr refl
+
 pub not-both : (u : State) → isWaiting u ≡ true → isInFlight u ≡ true → ⊥
 not-both state.Free w f = clash w refl
 not-both (state.Waiting h) w f = clash f refl
@@ -66,7 +84,7 @@ room-below (state.Waiting hold.Hard) n l f = l
 room-below (state.Waiting (hold.Soft r)) n l f = f r (eq-eqb r r refl)
 room-below (state.InFlight k) n l f = l
 
--- ---- what a call leaves of it: what is in use stays so, what is hard stays so, and nobody gets a room
+-- ---- what a call leaves of it: what is in use, hard or in flight stays so, and nobody gets a room
 
 pub turned-used : (u : State) → isUsed (turnedState u) ≡ isUsed u
 turned-used state.Free = refl
@@ -77,6 +95,11 @@ pub turned-hard : (u : State) → isHardPatch u ≡ true → isHardPatch (turned
 turned-hard state.Free e = e
 turned-hard (state.Waiting h) e = refl
 turned-hard (state.InFlight k) e = e
+
+pub turned-flies : (u : State) → isInFlight u ≡ true → isInFlight (turnedState u) ≡ true
+turned-flies state.Free e = e
+turned-flies (state.Waiting h) e = e
+turned-flies (state.InFlight k) e = refl
 
 pub turned-room : (u : State) (r : ℕ) → hasRoom (turnedState u) r ≡ true → hasRoom u r ≡ true
 turned-room state.Free r e = e
@@ -93,6 +116,11 @@ sent-hard state.Free e = e
 sent-hard (state.Waiting hold.Hard) e = refl
 sent-hard (state.Waiting (hold.Soft r)) e = e
 sent-hard (state.InFlight k) e = e
+
+pub sent-flies : (u : State) → isInFlight u ≡ true → isInFlight (sentState u) ≡ true
+sent-flies state.Free e = e
+sent-flies (state.Waiting h) e = absurd (clash e refl)
+sent-flies (state.InFlight k) e = refl
 
 pub sent-room : (u : State) (r : ℕ) → hasRoom (sentState u) r ≡ true → hasRoom u r ≡ true
 sent-room state.Free r e = e

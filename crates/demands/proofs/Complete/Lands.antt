@@ -54,7 +54,8 @@ module _ {h : History} (g : Good h) (b : ℕ) where
       pick fm (Fate.lost j e l f) = inl (ap (stateAt ss′) f)
       pick (Fate.gone e f) (Fate.kept j a q) = absurd (w (ap (stateAt ss′) f))
       pick (Fate.lost i e k f) (Fate.kept j a q) = absurd (w (ap (stateAt ss′) f))
-      pick (Fate.kept i e f) (Fate.kept j a q) = inr (tie-stays ss ss′ m n (f ∙ sym e) (q ∙ sym a) (stays (f ∙ sym e) (q ∙ sym a)) t)
+      pick (Fate.kept i e f) (Fate.kept j a q) = inr (tie-stays ss ss′ m n (f ∙ sym e) (q ∙ sym a)
+          (λ i r. like-at g b m i (f ∙ sym e ∙ r)) (λ i r. like-at g b n i (q ∙ sym a ∙ r)) (stays (f ∙ sym e) (q ∙ sym a)) t)
         where
           -- a before that stays is among those that remain
           stays : slotOf ss′ m ≡ slotOf ss m → slotOf ss′ n ≡ slotOf ss n → (i j : ℕ) → slotOf ss m ≡ some i → slotOf ss n ≡ some j

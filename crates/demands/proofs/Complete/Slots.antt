@@ -11,7 +11,7 @@ use Rattle.rules.specs.declared.State.the-variants as state
 use Rattle.rules.specs.declared.Slot.{Slot}
 use Rattle.rules.specs.Sizes.{slots}
 use Rattle.rules.specs.Slots.{isUsed, isInFlight}
-use Rattle.rules.specs.Table.{slotAt, used, fliesOn, Sound}
+use Rattle.rules.specs.Table.{slotAt, used, fliesOn, withSlots, Sound}
 use Rattle.rules.specs.Complete.{withoutBefores, landing, completedSlots, completed}
 use Rattle.rules.proofs.StaysSound.{Like, Finished, finished, remaining-like, completed-sound}
 use Rattle.cut.specs.World.{Stage, committed, settled}
@@ -62,7 +62,7 @@ module _ {h : History} (g : Good h) (b : ℕ) where
   -- the history after the call
   abbrev pub landed : History
   landed = record {
-    table = record { first = h .table .first; next = h .table .next; slots = ss′ };
+    table = withSlots ss′ (h .table);
     image = h .image;
     undo = h .undo;
     opening = h .opening;

@@ -7,15 +7,15 @@ use mathlib.Core.List.{List, _∷_, _++_, List·Memᴰ, List·Memᴰ·head, List
 use mathlib.Core.Logic.{_⊎_, inl, inr}
 use borrow.Author.Tests.{eq-eqb}
 use lib.ListN.{length}
-use Rattle.ground.proofs.Decided.{true-and, true-or-false}
+use Rattle.ground.proofs.Decided.{true-and, true-or-l, true-or-false}
 use Rattle.spans.proofs.Laws.{length-splice}
 use Rattle.rules.specs.declared.Hold.{Hold}
 use Rattle.rules.specs.declared.Slot.{Slot}
 use Rattle.rules.specs.Sizes.{slots}
 use Rattle.rules.specs.Slots.{isUsed}
-use Rattle.rules.specs.Table.{slotAt}
+use Rattle.rules.specs.Table.{slotAt, hardPatchOn}
 use Rattle.rules.specs.Create as create
-use Rattle.rules.specs.Create.{overlaps, patch, changed}
+use Rattle.rules.specs.Create.{patch, changed}
 use Rattle.rules.proofs.StaysSound.{Like}
 use Rattle.rules.proofs.Pins.{byte-shared}
 use Rattle.cut.specs.Changes.{Share}
@@ -28,7 +28,7 @@ use Rattle.demands.proofs.Views.{Within, inside-of}
 use Rattle.demands.proofs.Notes.{sender, mem-left, mem-right}
 use Rattle.demands.proofs.Lookup.{carries, carries-used}
 use Rattle.demands.proofs.AtSlot.{roomed, wordOf, isDone, isOut}
-use Rattle.demands.proofs.Linked.{Range, Has, like-room, range-still, overlaps-still}
+use Rattle.demands.proofs.Linked.{Range, Has, toldOf, like-room, range-still, told-still}
 use Rattle.demands.proofs.Good.{Good}
 use Rattle.demands.proofs.Create.Slots.{Making, new, made, At, at, sound′, carries-old, new-slot, below, old-state, new-state, like}
 use Rattle.demands.proofs.Create.Ties.{created}
@@ -82,21 +82,22 @@ module _ {h : History} {c : create.Change} {j : ℕ} {k : Hold} (d : Making h c 
           subst (λ (n : ℕ). Once n (h .accepted)) (sym (s .like .number)) (d .good .linked .single i l (like-room (s .like) e .0))
 
   -- what shares a byte with the new change overlaps the new patch
-  told-new : (i : ℕ) → slotAt ss′ i ≡ patch (h .table) c k → (y : Accepted) → Share (plain y) (plain (new d)) → overlaps ss′ (y .change) i ≡ true
+  told-new : (i : ℕ) → slotAt ss′ i ≡ patch (h .table) c k → (y : Accepted) → Share (plain y) (plain (new d)) → toldOf ss′ y i ≡ true
   unfolding patch
   told-new i s y both =
       let p = inside-of (plain y) (both .inBlock) (both .place) (both .mine) in
       let q = inside-of (plain (new d)) (both .inBlock) (both .place) (both .yours) in
       let r = range-new i s in
-      true-and (ap (λ (x : Slot). isUsed (x .state)) s)
+      true-or-l (hardPatchOn ss′ (y .change .block) i)
+      (true-and (ap (λ (x : Slot). isUsed (x .state)) s)
       (true-and (eq-eqb (slotAt ss′ i .block) (y .change .block) (ap (λ (x : Slot). x .block) s ∙ sym (q .0) ∙ p .0))
       (byte-shared (slotAt ss′ i .offset) (slotAt ss′ i .len) (y .change .offset) (length (y .change .bytes)) (both .place)
-      (omega (arith, r .offset, q .1)) (omega (arith, r .offset, r .len, q .2)) (p .1) (p .2)))
+      (omega (arith, r .offset, q .1)) (omega (arith, r .offset, r .len, q .2)) (p .1) (p .2))))
 
   told′ : (a : Accepted) → List·Memᴰ a (new d ∷ h .accepted) → (i : ℕ) → Has ss′ a i → (y : Accepted) → Share (plain y) (plain a)
-      → overlaps ss′ (y .change) i ≡ true
+      → toldOf ss′ y i ≡ true
   told′ a (List·Memᴰ·head e) i q y s = told-new i (fresh-slot a e i q) y (subst (λ (z : Accepted). Share (plain y) (plain z)) e s)
-  told′ a (List·Memᴰ·tail m) i q y s = let w = had a m i q in overlaps-still ss ss′ i (near a i w) y (d .good .linked .told a m i w y s)
+  told′ a (List·Memᴰ·tail m) i q y s = let w = had a m i q in told-still ss ss′ i (near a i w) y (d .good .linked .told a m i w y s)
 
   -- ---- the notes
 
@@ -120,7 +121,7 @@ module _ {h : History} {c : create.Change} {j : ℕ} {k : Hold} (d : Making h c 
   noted word e ws among f x (List·Memᴰ·tail m) = f x m ∙ sym (ap word (old-state d (x .number) (below d x m)))
 
   within′ : (x : Accepted) → List·Memᴰ x (new d ∷ h .accepted) → Within (plain x)
-  within′ x (List·Memᴰ·head e) = subst (λ (z : Accepted). Within (plain z)) (sym e) (record { block = d .passed .is-block; ends = d .passed .ends })
+  within′ x (List·Memᴰ·head e) = subst (λ (z : Accepted). Within (plain z)) (sym e) (record { block = d .passed .ready .is-block; ends = d .passed .ready .ends })
   within′ x (List·Memᴰ·tail m) = d .good .within x m
 
   pub created-good : Good (made d)
@@ -128,7 +129,7 @@ module _ {h : History} {c : create.Change} {j : ℕ} {k : Hold} (d : Making h c 
   created-good = record {
     sound = sound′ d;
     numbers = Numbered.fresh (new d) refl (d .good .numbers);
-    older = (λ n e. let i = d .passed .issued n e in number-taken n (d .good .numbers) (i .0) (i .1), d .good .older);
+    older = (λ n e. let i = d .passed .ready .issued n e in number-taken n (d .good .numbers) (i .0) (i .1), d .good .older);
     linked = record { block = block′; range = range′; single = single′; told = told′ };
     within = within′;
     image-whole = length-splice (h .image) _ _ ∙ d .good .image-whole;

@@ -16,11 +16,12 @@ use Rattle.rules.specs.declared.State.the-variants as state
 use Rattle.rules.specs.declared.Slot.{Slot}
 use Rattle.rules.specs.Sizes.{slots}
 use Rattle.rules.specs.Slots.{isUsed}
-use Rattle.rules.specs.Table.{slotAt, used, Sound}
+use Rattle.rules.specs.Table.{slotAt, used, withSlots, withNext, Sound}
 use Rattle.rules.specs.Create as create
 use Rattle.masks.specs.Lowest.{Lowest}
 use Rattle.rules.specs.Create.{FreeSlot, HoldOf, patch, turned, turnedState, turnedSlot, acceptedSlot, acceptedSlots, accepted, changed, kept}
 use Rattle.rules.proofs.After.{accepted-at}
+use Rattle.rules.specs.Refusals.{TakesSlot}
 use Rattle.rules.specs.Passed.{CreatePassed}
 use Rattle.rules.proofs.StaysSound.{Like, like-self, turned-like, accepted-sound}
 use Rattle.cut.specs.Changes.{Logged}
@@ -39,7 +40,7 @@ pub record Stays (n s : Slot) : Type 0 where
   pub word : stateWord (n .state) ≡ stateWord (s .state)
   pub befores : n .befores ≡ s .befores
 
-turned-stays : (h : Hold) (b : ℕ) (s : Slot) → Stays (turned h b s) s
+pub turned-stays : (h : Hold) (b : ℕ) (s : Slot) → Stays (turned h b s) s
 turned-stays (hold.Soft r) b s = record { like = like-self s; word = refl; befores = refl }
 turned-stays hold.Hard b s = record { like = turned-like hold.Hard b s; word = word (eqb (s .block) b); befores = same (eqb (s .block) b) }
   where
@@ -60,7 +61,8 @@ turned-stays hold.Hard b s = record { like = turned-like hold.Hard b s; word = w
 pub record Making (h : History) (c : create.Change) (j : ℕ) (k : Hold) : Type 0 where
   pub good : Good h
   pub lowest : Lowest slots (FreeSlot (h .table .slots)) j
-  pub held : HoldOf (h .table .slots) (c .block) k
+  pub own : TakesSlot (h .table) c
+  pub held : HoldOf (h .table .setting) (h .table .slots) (c .block) k
   pub passed : CreatePassed (h .table) (h .image) (h .undo) c
 
 module _ {h : History} {c : create.Change} {j : ℕ} {k : Hold} (d : Making h c j k) where
@@ -77,7 +79,7 @@ module _ {h : History} {c : create.Change} {j : ℕ} {k : Hold} (d : Making h c 
   -- the history after the call
   abbrev pub made : History
   made = record {
-    table = record { first = h .table .first; next = h .table .next + 1; slots = ss′ };
+    table = withNext (h .table .next + 1) (withSlots ss′ (h .table));
     image = changed (h .image) c;
     undo = kept (h .undo) (h .image) c k;
     opening = h .opening;
@@ -124,7 +126,7 @@ module _ {h : History} {c : create.Change} {j : ℕ} {k : Hold} (d : Making h c 
 
   pub sound′ : Sound (made .table)
   unfolding accepted
-  sound′ = accepted-sound (h .table) (h .image) (h .undo) c j k (d .passed) (d .lowest) (d .held)
+  sound′ = accepted-sound (h .table) (h .image) (h .undo) c j k (d .passed) (d .own) (d .lowest) (d .held)
 
   -- ---- numbers
 

@@ -15,7 +15,9 @@ use Rattle.rules.specs.declared.Hold.{Hold}
 use Rattle.rules.specs.declared.Hold.the-variants as hold
 use Rattle.rules.specs.declared.State.the-variants as state
 use Rattle.rules.specs.declared.Slot.{Slot}
-use Rattle.rules.specs.Sizes.{blockStart, slots, rooms, roomStart}
+use Rattle.rules.specs.declared.Setting.{Setting}
+use Rattle.rules.specs.Sizes.{blockStart, slots, roomStart}
+use Rattle.rules.specs.Settings.{rooms}
 use Rattle.rules.specs.Slots.{roomOf}
 use Rattle.rules.specs.Table.{slotAt, HasRoom}
 use Rattle.rules.specs.Create as create
@@ -31,9 +33,9 @@ use Rattle.demands.proofs.Good.{roomByte, room-byte, rooms-alike, oldBy
 use Rattle.demands.proofs.Create.Slots.{Making, new, made, new-at, like, slot-old, slot-new, below-log}
 
 -- the room taken was free
-room-taken : (ss : List Slot) (b : ℕ) (z : Hold) → HoldOf ss b z → (r : ℕ) → z ≡ hold.Soft r → (r < rooms) × FreeRoom ss r
-room-taken ss b z (HoldOf.hard w) r e = absurd (let y : _≡_ {A = ℕ} 0 1 = cc in omega arith)
-room-taken ss b z (HoldOf.soft {r = q} w f) r e = let y : q ≡ r = cc in subst (λ (x : ℕ). (x < rooms) × FreeRoom ss x) y (f .within, f .holds)
+room-taken : (g : Setting) (ss : List Slot) (b : ℕ) (z : Hold) → HoldOf g ss b z → (r : ℕ) → z ≡ hold.Soft r → (r < rooms g) × FreeRoom ss r
+room-taken g ss b z (HoldOf.hard w) r e = absurd (let y : _≡_ {A = ℕ} 0 1 = cc in omega arith)
+room-taken g ss b z (HoldOf.soft {r = q} w f) r e = let y : q ≡ r = cc in subst (λ (x : ℕ). (x < rooms g) × FreeRoom ss x) y (f .within, f .holds)
 
 module _ {h : History} {c : create.Change} {j : ℕ} {k : Hold} (d : Making h c j k) where
   abbrev ss : List Slot
@@ -43,12 +45,12 @@ module _ {h : History} {c : create.Change} {j : ℕ} {k : Hold} (d : Making h c 
   ss′ = made d .table .slots
 
   old-length : length (oldBytes (h .image) c) ≡ length (c .bytes)
-  old-length = let v = d .passed in length-part (h .image) (place c) (length (c .bytes)) (omega (arith, v .image-whole, v .is-block, v .ends))
+  old-length = let v = d .passed .ready in length-part (h .image) (place c) (length (c .bytes)) (omega (arith, v .image-whole, v .is-block, v .ends))
 
   -- the bytes of a room that is not the one taken stay
-  other-room : (q n : ℕ) → q < rooms → n < 64 → (k ≡ hold.Soft q → ⊥) → getD (made d .undo) (roomStart q + n) 0 ≡ getD (h .undo) (roomStart q + n) 0
+  other-room : (q n : ℕ) → n < 64 → (k ≡ hold.Soft q → ⊥) → getD (made d .undo) (roomStart q + n) 0 ≡ getD (h .undo) (roomStart q + n) 0
   unfolding kept
-  other-room q n l m other = go k refl
+  other-room q n m other = go k refl
     where
       go : (z : Hold) → k ≡ z → getD (kept (h .undo) (h .image) c z) (roomStart q + n) 0 ≡ getD (h .undo) (roomStart q + n) 0
       go hold.Hard e = refl
@@ -60,14 +62,14 @@ module _ {h : History} {c : create.Change} {j : ℕ} {k : Hold} (d : Making h c 
           by : Dec (q < r) → getD (splice (h .undo) (roomStart r) (oldBytes (h .image) c)) (roomStart q + n) 0 ≡ getD (h .undo) (roomStart q + n) 0
           by (yes p) = splice-below (h .undo) (roomStart r) (oldBytes (h .image) c) (roomStart q + n) (omega arith)
           by (no p) =
-              splice-above (h .undo) (roomStart r) (oldBytes (h .image) c) (roomStart q + n) (omega (arith, old-length, d .passed .len-most, apart))
+              splice-above (h .undo) (roomStart r) (oldBytes (h .image) c) (roomStart q + n) (omega (arith, old-length, d .passed .ready .len-most, apart))
 
   -- the old bytes go into the first bytes of the room taken
-  in-room : (r n : ℕ) → r < rooms → n < length (c .bytes)
+  in-room : (r n : ℕ) → r < rooms (h .table .setting) → n < length (c .bytes)
       → getD (kept (h .undo) (h .image) c (hold.Soft r)) (roomStart r + n) 0 ≡ getD (h .image) (place c + n) 0
   unfolding kept
   in-room r n l m =
-      let v = d .passed in
+      let v = d .passed .ready in
       let longest = old-length in
       let at-n : roomStart r + n - roomStart r ≡ n = omega arith in
       splice-in (h .undo) (roomStart r) (oldBytes (h .image) c) (roomStart r + n) (omega arith) (omega arith) (omega (arith, v .len-most, v .undo-whole))
@@ -88,12 +90,12 @@ module _ {h : History} {c : create.Change} {j : ℕ} {k : Hold} (d : Making h c 
       at-room : roomFor ss′ (h .table .next) ≡ roomOf (state.Waiting k)
       at-room = ap (roomAt ss′) (slot-new d) ∙ ap (λ (x : Slot). roomOf (x .state)) (new-at d)
 
-      go : (z : Hold) → k ≡ z → HoldOf ss (c .block) z → oldByte ss′ (made d .undo) (plain (new d)) i ≡ view (h .image) b i
+      go : (z : Hold) → k ≡ z → HoldOf (h .table .setting) ss (c .block) z → oldByte ss′ (made d .undo) (plain (new d)) i ≡ view (h .image) b i
       go hold.Hard y w = absurd (clash soft-new (ap (λ (x : Hold). roomed (state.Waiting x)) y))
       go (hold.Soft r) y w =
-          let v = d .passed in
+          let v = d .passed .ready in
           let room : roomFor ss′ (h .table .next) ≡ r = at-room ∙ ap (λ (x : Hold). roomOf (state.Waiting x)) y in
-          let free = room-taken ss (c .block) (hold.Soft r) w r refl in
+          let free = room-taken (h .table .setting) ss (c .block) (hold.Soft r) w r refl in
           let spot : place c + (i - c .offset) ≡ blockStart b + i = omega (arith, q .0, q .1) in
           ap (λ (x : ℕ). roomByte (made d .undo) x (i - c .offset)) room
           ∙ room-byte (made d .undo) r (i - c .offset) (omega (arith, q .1, q .2, v .len-most))
@@ -108,9 +110,8 @@ module _ {h : History} {c : create.Change} {j : ℕ} {k : Hold} (d : Making h c 
   old-room i l soft =
       let room : ℕ = roomOf (slotAt ss i .state) in
       let has-room : HasRoom ss i room = soft in
-      let low : room < rooms = d .good .sound .room-most i room l has-room in
-      let not-taken : k ≡ hold.Soft room → ⊥ = λ z. room-taken ss (c .block) k (d .held) room z .1 i l has-room in
-      rooms-alike (made d .undo) (h .undo) room (λ n o. other-room room n low o not-taken)
+      let not-taken : k ≡ hold.Soft room → ⊥ = λ z. room-taken (h .table .setting) ss (c .block) k (d .held) room z .1 i l has-room in
+      rooms-alike (made d .undo) (h .undo) room (λ n o. other-room room n o not-taken)
 
   pub old-undo : (x : Logged) → List·Memᴰ x (map plain (h .accepted)) → roomedOf ss′ (x .number) ≡ true
       → (roomedOf ss (x .number) ≡ true) × ((i : ℕ) → oldByte ss′ (made d .undo) x i ≡ oldByte ss (h .undo) x i)

@@ -14,7 +14,8 @@ use Rattle.ground.proofs.Decided.{clash, true-or-false}
 use Rattle.spans.specs.Spans.{splice, part}
 use Rattle.spans.proofs.Laws.{splice-in, splice-below, splice-above, length-part, part-in}
 use Rattle.rules.specs.declared.Slot.{Slot}
-use Rattle.rules.specs.Sizes.{blockBytes, blockStart, slots, rooms, roomStart}
+use Rattle.rules.specs.Sizes.{blockBytes, blockStart, slots, roomStart}
+use Rattle.rules.specs.Settings.{rooms}
 use Rattle.rules.specs.Slots.{roomOf}
 use Rattle.rules.specs.Table.{slotAt}
 use Rattle.rules.specs.Write.{leftBehind, takenBack, backNumber, backDown, handedOut}
@@ -62,7 +63,7 @@ module _ {h : History} {b s : ℕ} (d : Sending h b s) where
     room : ℕ
     room = roomOf (slotAt ss j .state)
 
-    room-low : room < rooms
+    room-low : room < rooms (h .table .setting)
     unfolding room
     room-low = d .good .sound .room-most j (roomOf (slotAt ss j .state)) (mine .0) (behind-roomed d j (mine .0) e)
 

@@ -1,12 +1,17 @@
 -- A granted write as a sending of `cut`: what goes, what it leaves of undo data and ties, and the blocks that it does not touch.
-use Prim.Native.Nat.{ℕ, _-_}
+use Prim.Native.Nat.{ℕ, _-_, _<_}
 use mathlib.Core.Path.{_≡_, refl, sym, _∙_, ap}
 use mathlib.Core.Bool.{true}
 use mathlib.Core.List.{List, _∷_, _++_}
 use mathlib.Core.Logic.{_≢_, inr, ⊎-elim}
 use Rattle.masks.specs.Sets.{has}
-use Rattle.ground.proofs.Decided.{true-or-false}
+use borrow.Author.Tests.{eq-eqb}
+use Rattle.ground.proofs.Decided.{true-or-false, true-and}
 use Rattle.rules.specs.declared.Slot.{Slot}
+use Rattle.rules.specs.Sizes.{slots}
+use Rattle.rules.specs.Slots.{isInFlight}
+use Rattle.rules.specs.Table.{slotAt}
+use Rattle.rules.proofs.Words.{hard-or-flies}
 use Rattle.cut.specs.Changes.{Logged, covers}
 use Rattle.cut.specs.World.{waiting, inFlight, left, SendStep}
 use Rattle.cut.proofs.Facts.{carry-outside}
@@ -16,10 +21,10 @@ use Rattle.demands.proofs.Log.{on-log}
 use Rattle.demands.proofs.Views.{view, inside-of}
 use Rattle.demands.proofs.Notes.{whole, view-written}
 use Rattle.demands.proofs.Lookup.{slotOf, slot-carries}
-use Rattle.demands.proofs.AtSlot.{wordOf, roomedOf, Tied, tie-stays}
+use Rattle.demands.proofs.AtSlot.{wordOf, roomedOf, Tie, Tied, tie-stays}
 use Rattle.demands.proofs.Linked.{room-stays}
 use Rattle.demands.proofs.Good.{roomByte, oldByte, world, none-out}
-use Rattle.demands.proofs.Write.Slots.{Sending, writ, gone, may, goAt, goes, like, befores-stay, slot-here, go-state, stay-state, members}
+use Rattle.demands.proofs.Write.Slots.{Sending, writ, gone, may, waits, goAt, goes, like, befores-stay, slot-here, go-state, stay-state, members}
 use Rattle.demands.proofs.Write.Left.{left-roomed}
 use Rattle.demands.proofs.Write.Back.{whole-writ, bytes}
 
@@ -31,9 +36,24 @@ module _ {h : History} {b s : ℕ} (d : Sending h b s) where
   ss′ = gone d .table .slots
 
   go-tied : (m n : ℕ) → goAt s (slotOf ss m) ≡ true → Tied ss m n → goAt s (slotOf ss n) ≡ true
-  go-tied m n e t =
-      let goes = sym (ap (goAt s) (t .mineIs)) ∙ e in
-      ap (goAt s) (t .itsIs) ∙ may d .closed (t .mine) (t .its) goes (slot-carries ss n (t .its) (t .itsIs) .0) (t .before)
+  go-tied m n e t = ap (goAt s) (t .itsIs) ∙ go (t .tie)
+    where
+      is-slot : t .its < slots
+      is-slot = slot-carries ss n (t .its) (t .itsIs) .0
+
+      goes : has s (t .mine) ≡ true
+      goes = sym (ap (goAt s) (t .mineIs)) ∙ e
+
+      -- none of the block is in flight, so a hard patch of it waits, and goes with every hard one
+      go : Tie ss (t .mine) (t .its) → has s (t .its) ≡ true
+      go (Tie.before f) = may d .closed (t .mine) (t .its) goes is-slot f
+      go (Tie.together g) =
+          let on-block = eq-eqb (slotAt ss (t .its) .block) b (sym (g .block) ∙ waits d (t .mine) goes .1) in
+          let lies : isInFlight (slotAt ss (t .its) .state) ≡ true → ⊥ = λ f. d .passed .ready .none-flies (t .its, is-slot, true-and f on-block) in
+          ⊎-elim
+          (λ f. ⊎-elim (λ hard. may d .hards (t .mine) goes (t .its) is-slot (true-and hard on-block)) (λ q. absurd (lies q))
+          (hard-or-flies (slotAt ss (t .its) .state) f))
+          (λ f. absurd (lies f)) (g .its)
 
   old-undo : (x : Logged) → roomedOf ss′ (x .number) ≡ true
       → (roomedOf ss (x .number) ≡ true) × ((i : ℕ) → oldByte ss′ (h .undo) x i ≡ oldByte ss (h .undo) x i)
@@ -44,7 +64,7 @@ module _ {h : History} {b s : ℕ} (d : Sending h b s) where
 
   old-ties : (m n : ℕ) → Tied ss m n → Tied ss′ m n
   old-ties m n =
-      tie-stays ss ss′ m n (slot-here d m) (slot-here d n)
+      tie-stays ss ss′ m n (slot-here d m) (slot-here d n) (λ i e. like d i (slot-carries ss m i e .0)) (λ j e. like d j (slot-carries ss n j e .0))
       (λ i j e f before. ap (λ (x : ℕ). has x j) (befores-stay d i (slot-carries ss m i e .0)) ∙ before)
 
   others : (e i : ℕ) → e ≢ b

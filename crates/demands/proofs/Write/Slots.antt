@@ -12,7 +12,7 @@ use Rattle.rules.specs.declared.State.the-variants as state
 use Rattle.rules.specs.declared.Slot.{Slot}
 use Rattle.rules.specs.Sizes.{slots}
 use Rattle.rules.specs.Slots.{isWaiting}
-use Rattle.rules.specs.Table.{slotAt, Sound}
+use Rattle.rules.specs.Table.{slotAt, withSlots, Sound}
 use Rattle.rules.specs.Write.{MayGo, Largest, handedOut, sentState, sentSlot, sentSlots, sent}
 use Rattle.rules.proofs.After.{sent-at}
 use Rattle.rules.specs.Passed.{WritePassed}
@@ -61,7 +61,7 @@ module _ {h : History} {b s : ℕ} (d : Sending h b s) where
   -- the history after the call
   abbrev pub gone : History
   gone = record {
-    table = record { first = h .table .first; next = h .table .next; slots = ss′ };
+    table = withSlots ss′ (h .table);
     image = h .image;
     undo = h .undo;
     opening = h .opening;
