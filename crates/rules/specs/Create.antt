@@ -143,7 +143,7 @@ pub record LowestNumbered (ss : List Slot) (b j : ℕ) : Type 0 where
   pub waits : waitsOn ss b j ≡ true
   pub lowest : (i : ℕ) → i < slots → waitsOn ss b i ≡ true → slotAt ss j .number ≤ slotAt ss i .number
 
--- what a change that joins adds to the befores of the patch: the slots of named numbers on other blocks
+-- what a change that joins adds to the befores of the patch: the slots of the named numbers that have not committed and are on other blocks
 abbrev pub namedElsewhere : List Slot → Change → ℕ → Bool
 namedElsewhere ss c i = isNamed ss c i && not (eqb (slotAt ss i .block) (c .block))
 
