@@ -1,9 +1,10 @@
 // What a setting says: how many undo rooms there are, whether a change joins, whether every patch is
 // soft. No other code takes a setting apart.
 ghost use mathlib.Core.Path.{_≡_};
-ghost use Rattle.rules.specs.Settings.{rooms, joins, allSoft};
+ghost use Rattle.rules.specs.Settings.{rooms, joins, allSoft, undoBytes};
 use rules::Setting;
 use rules::sizes::MORE_ROOMS;
+use rules::sizes::ROOM_BYTES;
 use rules::sizes::ROOMS;
 
 pub fn rooms(setting: Setting) -> usize
@@ -34,4 +35,11 @@ pub fn all_soft(setting: Setting) -> bool
         Setting::AllSoft => true,
         Setting::HardRule => false,
     }
+}
+
+// How many bytes the undo area has: room after room.
+pub fn undo_bytes(setting: Setting) -> usize
+    ensures { λ r. ⌜ r ≡ undoBytes setting ⌝ }
+{
+    ROOM_BYTES * rooms(setting)
 }
