@@ -1,13 +1,11 @@
 -- Create: each answer from the facts that the code has found where it returns it.
-use Prim.Native.Nat.{ℕ, _+_, _*_, _≤_, _<_}
-use mathlib.Core.Path.{_≡_, refl, sym, ap, ap₂, subst₃}
+use Prim.Native.Nat.{ℕ, _+_, _≤_, _<_}
+use mathlib.Core.Path.{_≡_, refl, sym, ap, subst₃}
 use mathlib.Core.List.{List, [], _∷_}
 use mathlib.Core.Logic.{_⊎_, ⊎-elim}
-use native.Mathlib.Nat.{mul-comm}
 use native.Mathlib.Omega.{arith}
 use lib.ListN.{length}
 use Rattle.spans.specs.Spans.{splice, part}
-use Rattle.spans.proofs.Laws.{part-whole}
 use Rattle.rules.specs.declared.Hold.{Hold}
 use Rattle.rules.specs.declared.Hold.the-variants as hold
 use Rattle.rules.specs.declared.CreateAnswer.the-variants as create
@@ -15,7 +13,7 @@ use Rattle.rules.specs.Sizes.{roomStart, blocks, blockBytes, imageBytes, slots,
 use Rattle.rules.specs.Settings.{undoBytes}
 use Rattle.rules.specs.Table.{Table, Sound}
 use Rattle.masks.specs.Lowest.{Lowest}
-use Rattle.rules.specs.Create.{Change, FreeSlot, HoldOf, Joins, LowestNumbered, accepted, changed, kept}
+use Rattle.rules.specs.Create.{Change, FreeSlot, HoldOf, Joins, LowestNumbered, accepted, place, changed, kept}
 use Rattle.rules.specs.Refusals.{Case, case, First, WrongSize, Unsound, NoBlock, WrongLength, PastEnd, NamesUnissued, TakesSlot, NoNumber, NoSlot, NoRoom, createCases}
 use Rattle.rules.specs.Calls.{Creates, Accepts, createRefused, createGranted, createJoined}
 use Rattle.rules.specs.Passed.{CreateReady}
@@ -153,13 +151,12 @@ module _ (t : Table) (image undo : List ℕ) (c : Change) where
               (grants (createGranted t image undo c j h) (slotted (passes (room-for h held) none-holds)) refl
               (Accepts.takes own (record { slot = j; hold = h; lowest = low; hard-or-soft = held; number = refl; says = refl; whole = refl })))
 
--- the code's place of a change in the image, and what is laid there and kept, are those of the rules
-pub image-made : (image : List ℕ) (c : Change) → splice image (c .block * 256 + c .offset) (part (c .bytes) 0 (length (c .bytes))) ≡ changed image c
+-- what the code puts at a change's place in the image, and keeps of it, is what the rules have
+pub image-made : (image : List ℕ) (c : Change) {at : ℕ} → at ≡ place c → splice image at (c .bytes) ≡ changed image c
 unfolding changed
-image-made image c = ap₂ (splice image) (ap (λ (x : ℕ). x + c .offset) (mul-comm (c .block) 256)) (part-whole (c .bytes))
+image-made image c e = ap (λ (x : ℕ). splice image x (c .bytes)) e
 
-pub undo-made : (undo image : List ℕ) (c : Change) (h : Hold) → keptAt undo image (c .block * 256 + c .offset) (length (c .bytes)) h ≡ kept undo image c h
+pub undo-made : (undo image : List ℕ) (c : Change) (h : Hold) {at : ℕ} → at ≡ place c → keptAt undo image at (length (c .bytes)) h ≡ kept undo image c h
 unfolding kept
-undo-made undo image c hold.Hard = refl
-undo-made undo image c (hold.Soft r) =
-    ap (λ (x : ℕ). splice undo (roomStart r) (part image x (length (c .bytes)))) (ap (λ (x : ℕ). x + c .offset) (mul-comm (c .block) 256))
+undo-made undo image c hold.Hard e = refl
+undo-made undo image c (hold.Soft r) e = ap (λ (x : ℕ). splice undo (roomStart r) (part image x (length (c .bytes)))) e

@@ -4,7 +4,8 @@ ghost use Prim.Native.Nat.{_+_, _≤_, _<_};
 ghost use lib.ListN.{length};
 ghost use mathlib.Core.Path.{_≡_};
 ghost use Rattle.ground.specs.Decides.{Decides};
-ghost use Rattle.rules.specs.Sizes.{slots, mostBytes};
+ghost use Rattle.rules.specs.Sizes.{slots, blockStart, mostBytes};
+ghost use Rattle.spans.specs.Spans.{splice};
 ghost use Rattle.rules.specs.Table.{Sound};
 ghost use Rattle.rules.specs.Create.{changeOf, patch};
 ghost use Rattle.rules.specs.Calls.{Creates};
@@ -52,6 +53,20 @@ fn keep(undo: &mut [u8], image: &[u8], hold: Hold, at: usize, n: usize)
     if let Hold::Soft(r) = hold {
         spans::copy(undo, (r as usize) * ROOM_BYTES, image, at, n);
     }
+}
+
+// Where the range of a change starts in the working image.
+fn place(block: u32, offset: u32) -> usize
+    ensures { λ r. ⌜ r ≡ blockStart block + offset ⌝ }
+{
+    BLOCK_BYTES * (block as usize) + (offset as usize)
+}
+
+// The data into the working image, from place `at`.
+fn put(image: &mut [u8], at: usize, bytes: &[u8])
+    ensures { λ _. ⌜ now (image .exit) ≡ splice (now (image .entry)) at (now (bytes .entry)) ⌝ }
+{
+    spans::copy(image, at, bytes, 0, bytes.len());
 }
 
 impl Table {
@@ -146,8 +161,7 @@ impl Table {
     {
         let slots = self.slots;
         let s = slots[j];
-        let at = (block as usize) * BLOCK_BYTES + (offset as usize);
-        spans::copy(image, at, bytes, 0, bytes.len());
+        put(image, place(block, offset), bytes);
         let more = added(slots, block, named);
         Created {
             table: self.with_slots(joined(slots, block, more, j)),
@@ -187,9 +201,9 @@ impl Table {
             };
         }
         let patch = self.patch(block, offset, bytes, named, hold);
-        let at = (block as usize) * BLOCK_BYTES + (offset as usize);
+        let at = place(block, offset);
         keep(undo, image, hold, at, bytes.len());
-        spans::copy(image, at, bytes, 0, bytes.len());
+        put(image, at, bytes);
         Created {
             table: self.with_patch(patch, j, hold),
             answer: CreateAnswer::Granted(self.next, hold),
