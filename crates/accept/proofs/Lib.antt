@@ -1,5 +1,7 @@
 -- What the proofs of the functions share.
 pub mod Members
+pub mod SetOne
 pub mod FreeRooms
 pub mod One
 pub mod HeldBack
+pub mod Numbered

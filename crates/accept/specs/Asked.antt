@@ -5,18 +5,27 @@ use mathlib.Core.Bool.{true}
 use mathlib.Core.List.{List}
 use Rattle.masks.specs.Lowest.{Lowest, Outside}
 use Rattle.rules.specs.declared.Hold.the-variants as hold
+use Rattle.rules.specs.declared.Setting.{Setting}
 use Rattle.rules.specs.declared.Slot.{Slot}
-use Rattle.rules.specs.Sizes.{rooms}
-use Rattle.rules.specs.Create.{isIn, WouldBeHard}
-use Rattle.accept.specs.declared.types.Holding.{Holding}
-use Rattle.accept.specs.declared.types.Holding.the-variants as holding
+use Rattle.rules.specs.Settings.{rooms}
+use Rattle.rules.specs.Table.{slotAt, waitsOn}
+use Rattle.rules.specs.Create.{isIn, WouldBeHard, Joins, LowestNumbered}
+use Rattle.accept.specs.declared.types.Entry.{Entry}
+use Rattle.accept.specs.declared.types.Entry.the-variants as entry
 
 -- some number of the list is not from first up to next - 1
 abbrev pub Unissued : ℕ → ℕ → List ℕ → Type 0
 Unissued first next numbers = (n : ℕ) × (isIn n numbers ≡ true) × ((first ≤ n) × (n < next) → ⊥)
 
--- hard; or soft with the lowest room outside the set `taken`; or the patch would be soft and no room is outside it
-pub data Held (ss : List Slot) (b taken : ℕ) : Holding → Type 0 where
-  hard : WouldBeHard ss b → Held ss b taken (holding.Of hold.Hard)
-  soft : {r : ℕ} → (WouldBeHard ss b → ⊥) → Lowest rooms (Outside taken) r → Held ss b taken (holding.Of (hold.Soft r))
-  full : (WouldBeHard ss b → ⊥) → ((r : ℕ) → r < rooms → Outside taken r → ⊥) → Held ss b taken holding.Full
+-- slot j has the lowest-numbered waiting patch of block b, and no slot below it has one with that number: in a sound table none can
+pub record FirstNumbered (ss : List Slot) (b j : ℕ) : Type 0 where
+  pub numbered : LowestNumbered ss b j
+  pub first : (i : ℕ) → i < j → waitsOn ss b i ≡ true → slotAt ss j .number < slotAt ss i .number
+
+-- what becomes of a creation on block b: it joins; or has an entry of its own and is hard, or soft with the lowest room outside the set `taken`; or it
+-- would be soft and no room is outside that set
+pub data Enters (g : Setting) (ss : List Slot) (b taken : ℕ) : Entry → Type 0 where
+  joins : {j : ℕ} → Joins g ss b → FirstNumbered ss b j → Enters g ss b taken (entry.Joins j)
+  hard : WouldBeHard g ss b → (Joins g ss b → ⊥) → Enters g ss b taken (entry.Own hold.Hard)
+  soft : {r : ℕ} → (WouldBeHard g ss b → ⊥) → Lowest (rooms g) (Outside taken) r → Enters g ss b taken (entry.Own (hold.Soft r))
+  full : (WouldBeHard g ss b → ⊥) → ((r : ℕ) → r < rooms g → Outside taken r → ⊥) → Enters g ss b taken entry.Full

@@ -1,9 +1,11 @@
-// The slots with a new patch in one of them; a hard creation turns the block's soft patches hard.
+// The slots with a change in them: as a new patch in one of them, or joined to the patch of one. A hard
+// creation turns the block's soft patches hard, whether it joins or not.
 ghost use mathlib.Core.Path.{_≡_};
 ghost use mathlib.Core.Bool.{true};
 ghost use Rattle.rules.specs.declared.Hold.the-variants.{Hard};
 ghost use Rattle.rules.specs.Table.{slotAt, slotsBy};
-ghost use Rattle.rules.specs.Create.{turnedState, turnedSlot, turned, acceptedSlots};
+ghost use lib.Dec.{eqb};
+ghost use Rattle.rules.specs.Create.{turnedState, turnedSlot, turned, acceptedSlots, withMore, joinedSlot};
 use rules::Hold;
 use rules::Slot;
 use rules::State;
@@ -55,6 +57,34 @@ pub fn accepted(slots: [Slot; SLOTS], patch: Slot, j: usize, hold: Hold) -> [Slo
     }
     if j < SLOTS {
         next[j] = patch;
+    }
+    next
+}
+
+// A slot with more befores. Number, block and range stay.
+fn with_more(s: Slot, more: u64) -> Slot
+    ensures { λ r. ⌜ r ≡ withMore more s ⌝ }
+{
+    let state = s.state;
+    Slot {
+        state,
+        number: s.number,
+        block: s.block,
+        offset: s.offset,
+        len: s.len,
+        befores: masks::either(s.befores, more),
+    }
+}
+
+// The slots when a change of the block joins the patch of slot j and adds to its befores.
+pub fn joined(slots: [Slot; SLOTS], block: u32, added: u64, j: usize) -> [Slot; SLOTS]
+    ensures { λ r. ⌜ r ≡ slotsBy (λ i. joinedSlot added block (eqb i j) (slotAt slots i)) ⌝ }
+{
+    let mut next = turned_all(slots, block);
+    if j < SLOTS {
+        let s = next[j];
+        let more = with_more(s, added);
+        next[j] = more;
     }
     next
 }

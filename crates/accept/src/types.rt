@@ -1,9 +1,11 @@
-// What is answered to "hard or soft?". It stands apart from the code, so that the definition by which
-// that promises can name it.
+// What becomes of a creation. The answer stands apart from the code, so that the definition by which that
+// promises can name it.
 use rules::Hold;
 
-// Hard, or soft with its room; or no room is free.
-pub enum Holding {
-    Of(Hold),
+// The slot whose patch the change joins; or an entry of its own, hard or soft with its room; or it would
+// be soft, and no room is free.
+pub enum Entry {
+    Joins(usize),
+    Own(Hold),
     Full,
 }

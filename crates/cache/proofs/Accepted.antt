@@ -1,23 +1,22 @@
 -- Create: each answer from the facts that the code has found where it returns it.
-use Prim.Native.Nat.{ℕ, _+_, _*_, _≤_, _<_}
-use mathlib.Core.Path.{_≡_, refl, sym, ap, ap₂, subst₃}
+use Prim.Native.Nat.{ℕ, _+_, _≤_, _<_}
+use mathlib.Core.Path.{_≡_, refl, sym, ap, subst₃}
 use mathlib.Core.List.{List, [], _∷_}
 use mathlib.Core.Logic.{_⊎_, ⊎-elim}
-use native.Mathlib.Nat.{mul-comm}
 use native.Mathlib.Omega.{arith}
 use lib.ListN.{length}
 use Rattle.spans.specs.Spans.{splice, part}
-use Rattle.spans.proofs.Laws.{part-whole}
 use Rattle.rules.specs.declared.Hold.{Hold}
 use Rattle.rules.specs.declared.Hold.the-variants as hold
 use Rattle.rules.specs.declared.CreateAnswer.the-variants as create
-use Rattle.rules.specs.Sizes.{roomStart, blocks, blockBytes, imageBytes, undoBytes, slots, mostBytes, mostNamed, lastNumber}
+use Rattle.rules.specs.Sizes.{roomStart, blocks, blockBytes, imageBytes, slots, mostBytes, mostNamed, lastNumber}
+use Rattle.rules.specs.Settings.{undoBytes}
 use Rattle.rules.specs.Table.{Table, Sound}
 use Rattle.masks.specs.Lowest.{Lowest}
-use Rattle.rules.specs.Create.{Change, FreeSlot, HoldOf, accepted, changed, kept}
-use Rattle.rules.specs.Refusals.{Case, case, First, WrongSize, Unsound, NoBlock, WrongLength, PastEnd, NamesUnissued, NoSlot, NoRoom, createCases}
-use Rattle.rules.specs.Calls.{Creates, createRefused, createGranted}
-use Rattle.rules.specs.Passed.{CreatePassed}
+use Rattle.rules.specs.Create.{Change, FreeSlot, HoldOf, Joins, LowestNumbered, accepted, place, changed, kept}
+use Rattle.rules.specs.Refusals.{Case, case, First, WrongSize, Unsound, NoBlock, WrongLength, PastEnd, NamesUnissued, TakesSlot, NoNumber, NoSlot, NoRoom, createCases}
+use Rattle.rules.specs.Calls.{Creates, Accepts, createRefused, createGranted, createJoined}
+use Rattle.rules.specs.Passed.{CreateReady}
 use Rattle.rules.proofs.Granted.{issued-holds}
 use Rattle.rules.proofs.Cases.{holds, passes, none-holds}
 use Rattle.rules.proofs.Outcomes.{refuses, grants}
@@ -25,16 +24,16 @@ use Rattle.cache.specs.Judged.{CreateJudged, keptAt}
 use Rattle.cache.proofs.Sent.{judged}
 
 module _ (t : Table) (image undo : List ℕ) (c : Change) where
-  pub create-wrong-size : (WrongSize imageBytes image ⊎ WrongSize undoBytes undo) → CreateJudged t image undo c 1
+  pub create-wrong-size : (WrongSize imageBytes image ⊎ WrongSize (undoBytes (t .setting)) undo) → CreateJudged t image undo c 1
   create-wrong-size w = judged 1 (λ e. omega arith) (holds w)
 
   -- the lent buffers are of their sizes
   pub record CreateSized : Type 0 where
     pub image-whole : length image ≡ imageBytes
-    pub undo-whole : length undo ≡ undoBytes
+    pub undo-whole : length undo ≡ undoBytes (t .setting)
 
   module _ (w : CreateSized) where
-    sizes : (WrongSize imageBytes image ⊎ WrongSize undoBytes undo) → ⊥
+    sizes : (WrongSize imageBytes image ⊎ WrongSize (undoBytes (t .setting)) undo) → ⊥
     sizes = ⊎-elim (λ n. n (w .image-whole)) (λ n. n (w .undo-whole))
 
     pub create-unsound : (Sound t → ⊥) → CreateJudged t image undo c 2
@@ -66,7 +65,7 @@ module _ (t : Table) (image undo : List ℕ) (c : Change) where
 
   module _ (p : Past5) where
     past5 : {k : ℕ} {rest : List Case} → First rest k
-        → First (case 1 (WrongSize imageBytes image ⊎ WrongSize undoBytes undo) ∷ case 2 (Unsound t) ∷ case 3 (NoBlock (c .block)) ∷ case 4
+        → First (case 1 (WrongSize imageBytes image ⊎ WrongSize (undoBytes (t .setting)) undo) ∷ case 2 (Unsound t) ∷ case 3 (NoBlock (c .block)) ∷ case 4
         (WrongLength c) ∷ case 5 (PastEnd c) ∷ rest) k
     past5 f =
         passes (sizes (p .sized))
@@ -80,33 +79,28 @@ module _ (t : Table) (image undo : List ℕ) (c : Change) where
       pub create-unissued : NamesUnissued t c → CreateJudged t image undo c 7
       create-unissued n = judged 7 (λ e. omega arith) (past5 (passes (λ m. omega arith) (holds n)))
 
-      module _ (issued : NamesUnissued t c → ⊥) where
-        pub create-no-number : t .next ≡ lastNumber + 1 → CreateJudged t image undo c 8
-        create-no-number n = judged 8 (λ e. omega arith) (past5 (passes (λ m. omega arith) (passes issued (holds n))))
-
-        pub create-ready : (t .next ≡ lastNumber + 1 → ⊥) → CreateJudged t image undo c 0
-        create-ready n = record {
-          refused = λ d. absurd (d refl);
-          ready = λ z. record {
-            image-whole = p .sized .image-whole;
-            undo-whole = p .sized .undo-whole;
-            sound = p .sound;
-            is-block = p .is-block;
-            len-least = omega (arith, p .least);
-            len-most = p .most;
-            ends = p .ends;
-            few-named = few;
-            issued = issued-holds t c issued;
-            last = omega (arith, n, p .sound .next-most);
-          };
-        }
+      pub create-ready : (NamesUnissued t c → ⊥) → CreateJudged t image undo c 0
+      create-ready issued = record {
+        refused = λ d. absurd (d refl);
+        ready = λ z. record {
+          image-whole = p .sized .image-whole;
+          undo-whole = p .sized .undo-whole;
+          sound = p .sound;
+          is-block = p .is-block;
+          len-least = omega (arith, p .least);
+          len-most = p .most;
+          ends = p .ends;
+          few-named = few;
+          issued = issued-holds t c issued;
+        };
+      }
 
   pub create-refused : (k : ℕ) → (k ≡ 0 → ⊥) → CreateJudged t image undo c k → Creates t image undo c (createRefused t image undo k)
   create-refused k d j = refuses k (j .refused d) refl d
 
-  module _ (r : CreatePassed t image undo c) where
-    -- past the early refusals only 9 and 10 are left
-    late : {k : ℕ} → First (case 9 (NoSlot (t .slots)) ∷ case 10 (NoRoom (t .slots) c) ∷ []) k → First (createCases t image undo c) k
+  module _ (r : CreateReady t image undo c) where
+    -- past the early refusals only 8, 9 and 10 are left
+    late : {k : ℕ} → First (case 8 (NoNumber t c) ∷ case 9 (NoSlot t c) ∷ case 10 (NoRoom t c) ∷ []) k → First (createCases t image undo c) k
     late f =
         past5
         (record {
@@ -117,36 +111,52 @@ module _ (t : Table) (image undo : List ℕ) (c : Change) where
           most = r .len-most;
           ends = r .ends;
         })
-        (passes (λ m. omega (arith, r .few-named)) (passes (λ u. u .2 (r .issued (u .0) (u .1))) (passes (λ m. omega (arith, r .last)) f)))
+        (passes (λ m. omega (arith, r .few-named)) (passes (λ u. u .2 (r .issued (u .0) (u .1))) f))
 
-    pub create-no-slot : NoSlot (t .slots) → Creates t image undo c (createRefused t image undo 9)
-    create-no-slot n = refuses 9 (late (holds n)) refl (λ e. omega arith)
+    -- a creation that joins is given none of them
+    pub create-joined : (j : ℕ) → Joins (t .setting) (t .slots) (c .block) → LowestNumbered (t .slots) (c .block) j
+        → Creates t image undo c (createJoined t image undo c j)
+    create-joined j joins low =
+        grants (createJoined t image undo c j)
+        (late (passes (λ m. m .0 joins) (passes (λ m. m .0 joins) (passes (λ m. m .0 (joins .would-be-hard)) none-holds)))) refl
+        (Accepts.joins joins (record { slot = j; lowest = low; number = refl; says = refl; whole = refl }))
 
-    module _ (j : ℕ) (low : Lowest slots (FreeSlot (t .slots)) j) where
-      pub create-no-room : NoRoom (t .slots) c → Creates t image undo c (createRefused t image undo 10)
-      create-no-room n = refuses 10 (late (passes (λ m. m j (low .within) (low .holds)) (holds n))) refl (λ e. omega arith)
+    module _ (own : TakesSlot t c) where
+      pub create-no-number : t .next ≡ lastNumber + 1 → Creates t image undo c (createRefused t image undo 8)
+      create-no-number e = refuses 8 (late (holds (own, e))) refl (λ e. omega arith)
 
-      room-for : (h : Hold) → HoldOf (t .slots) (c .block) h → NoRoom (t .slots) c → ⊥
-      room-for h (HoldOf.hard w) n = n .0 w
-      room-for h (HoldOf.soft {r = q} w free) n = n .1 q (free .within) (free .holds)
+      module _ (last : t .next ≡ lastNumber + 1 → ⊥) where
+        pub create-no-slot : ((i : ℕ) → i < slots → FreeSlot (t .slots) i → ⊥) → Creates t image undo c (createRefused t image undo 9)
+        create-no-slot n = refuses 9 (late (passes (λ m. last (m .1)) (holds (own, n)))) refl (λ e. omega arith)
 
-      -- the table and the buffers are what the code made
-      pub create-granted : (h : Hold) → HoldOf (t .slots) (c .block) h → (t′ : Table) (image′ undo′ : List ℕ) → t′ ≡ accepted t c j h
-          → image′ ≡ changed image c → undo′ ≡ kept undo image c h
-          → Creates t image undo c (record { answer = create.Granted (t .next) h; table = t′; image = image′; undo = undo′ })
-      create-granted h held t′ image′ undo′ p q s =
-          subst₃ (λ (x : Table) (y z : List ℕ). Creates t image undo c (record { answer = create.Granted (t .next) h; table = x; image = y; undo = z }))
-          (sym p) (sym q) (sym s)
-          (grants (createGranted t image undo c j h) (late (passes (λ m. m j (low .within) (low .holds)) (passes (room-for h held) none-holds))) refl
-          (record { slot = j; hold = h; lowest = low; hard-or-soft = held; number = refl; says = refl; whole = refl }))
+        module _ (j : ℕ) (low : Lowest slots (FreeSlot (t .slots)) j) where
+          -- neither 8 nor 9 holds
+          slotted : {k : ℕ} → First (case 10 (NoRoom t c) ∷ []) k → First (createCases t image undo c) k
+          slotted f = late (passes (λ m. last (m .1)) (passes (λ m. m .1 j (low .within) (low .holds)) f))
 
--- the code's place of a change in the image, and what is laid there and kept, are those of the rules
-pub image-made : (image : List ℕ) (c : Change) → splice image (c .block * 256 + c .offset) (part (c .bytes) 0 (length (c .bytes))) ≡ changed image c
+          pub create-no-room : NoRoom t c → Creates t image undo c (createRefused t image undo 10)
+          create-no-room n = refuses 10 (slotted (holds n)) refl (λ e. omega arith)
+
+          room-for : (h : Hold) → HoldOf (t .setting) (t .slots) (c .block) h → NoRoom t c → ⊥
+          room-for h (HoldOf.hard w) n = n .0 w
+          room-for h (HoldOf.soft {r = q} w free) n = n .1 q (free .within) (free .holds)
+
+          -- the table and the buffers are what the code made
+          pub create-granted : (h : Hold) → HoldOf (t .setting) (t .slots) (c .block) h → (t′ : Table) (image′ undo′ : List ℕ) → t′ ≡ accepted t c j h
+              → image′ ≡ changed image c → undo′ ≡ kept undo image c h
+              → Creates t image undo c (record { answer = create.Granted (t .next) h; table = t′; image = image′; undo = undo′ })
+          create-granted h held t′ image′ undo′ p q s =
+              subst₃ (λ (x : Table) (y z : List ℕ). Creates t image undo c (record { answer = create.Granted (t .next) h; table = x; image = y; undo = z }))
+              (sym p) (sym q) (sym s)
+              (grants (createGranted t image undo c j h) (slotted (passes (room-for h held) none-holds)) refl
+              (Accepts.takes own (record { slot = j; hold = h; lowest = low; hard-or-soft = held; number = refl; says = refl; whole = refl })))
+
+-- what the code puts at a change's place in the image, and keeps of it, is what the rules have
+pub image-made : (image : List ℕ) (c : Change) {at : ℕ} → at ≡ place c → splice image at (c .bytes) ≡ changed image c
 unfolding changed
-image-made image c = ap₂ (splice image) (ap (λ (x : ℕ). x + c .offset) (mul-comm (c .block) 256)) (part-whole (c .bytes))
+image-made image c e = ap (λ (x : ℕ). splice image x (c .bytes)) e
 
-pub undo-made : (undo image : List ℕ) (c : Change) (h : Hold) → keptAt undo image (c .block * 256 + c .offset) (length (c .bytes)) h ≡ kept undo image c h
+pub undo-made : (undo image : List ℕ) (c : Change) (h : Hold) {at : ℕ} → at ≡ place c → keptAt undo image at (length (c .bytes)) h ≡ kept undo image c h
 unfolding kept
-undo-made undo image c hold.Hard = refl
-undo-made undo image c (hold.Soft r) =
-    ap (λ (x : ℕ). splice undo (roomStart r) (part image x (length (c .bytes)))) (ap (λ (x : ℕ). x + c .offset) (mul-comm (c .block) 256))
+undo-made undo image c hold.Hard e = refl
+undo-made undo image c (hold.Soft r) e = ap (λ (x : ℕ). splice undo (roomStart r) (part image x (length (c .bytes)))) e

@@ -2,6 +2,7 @@
 use Prim.Native.Nat.{ℕ, _≤_, _<_}
 use mathlib.Core.Path.{_≡_, refl}
 use native.Mathlib.Omega.{arith}
+use Rattle.rules.specs.declared.Setting.{Setting}
 use Rattle.rules.specs.declared.AskAnswer.{AskAnswer}
 use Rattle.rules.specs.declared.AskAnswer.the-variants as ask
 use Rattle.rules.specs.declared.CountAnswer.the-variants as count
@@ -14,8 +15,8 @@ use Rattle.rules.specs.Calls.{Opens, openRefused, Asks, askNumber, Counts}
 use Rattle.rules.proofs.Cases.{holds, passes, none-holds}
 use Rattle.rules.proofs.Outcomes.{refuses, grants}
 
-pub open-no-first : (n : ℕ) → NoFirst n → Opens n (openRefused 15)
-open-no-first n h = refuses 15 (holds h) refl (λ e. omega arith)
+pub open-no-first : (g : Setting) (n : ℕ) → NoFirst n → Opens g n (openRefused g 15)
+open-no-first g n h = refuses 15 (holds h) refl (λ e. omega arith)
 
 module _ (t : Table) (n : ℕ) where
   pub ask-unsound : (Sound t → ⊥) → Asks t n (ask.Refused 2)

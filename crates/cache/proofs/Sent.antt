@@ -5,11 +5,12 @@ use mathlib.Core.List.{List, [], _∷_}
 use mathlib.Core.Logic.{_⊎_, ⊎-elim}
 use native.Mathlib.Omega.{arith}
 use lib.ListN.{length}
-use Rattle.rules.specs.Sizes.{blocks, blockBytes, imageBytes, undoBytes}
-use Rattle.rules.specs.Table.{Table, Sound}
+use Rattle.rules.specs.Sizes.{blocks, blockBytes, imageBytes}
+use Rattle.rules.specs.Settings.{undoBytes}
+use Rattle.rules.specs.Table.{Table, Sound, Flies, Waits}
 use Rattle.rules.specs.declared.WriteAnswer.the-variants as write
 use Rattle.rules.specs.Write.{Largest, sent, handedOut}
-use Rattle.rules.specs.Refusals.{Case, case, First, WrongSize, Flies, Waits, OnlyEmpty, writeCases}
+use Rattle.rules.specs.Refusals.{Case, case, First, WrongSize, OnlyEmpty, writeCases}
 use Rattle.rules.specs.Calls.{Writes, writeRefused, writeGranted, Completes, completeRefused, completeGranted}
 use Rattle.rules.proofs.Largest.{largest-empty}
 use Rattle.rules.proofs.Cases.{holds, passes, none-holds}
@@ -35,17 +36,17 @@ pub judged : {cases : List Case} {Ready : Type 0} (k : ℕ) → (k ≡ 0 → ⊥
 judged k d f = record { refused = λ e. f; ready = λ z. absurd (d z) }
 
 module _ (t : Table) (image undo block : List ℕ) (b : ℕ) where
-  pub write-wrong-size : (WrongSize imageBytes image ⊎ (WrongSize undoBytes undo ⊎ WrongSize blockBytes block)) → WriteJudged t image undo block b 1
+  pub write-wrong-size : (WrongSize imageBytes image ⊎ (WrongSize (undoBytes (t .setting)) undo ⊎ WrongSize blockBytes block)) → WriteJudged t image undo block b 1
   write-wrong-size w = judged 1 (λ e. omega arith) (holds w)
 
   -- the lent buffers are of their sizes
   pub record WriteSized : Type 0 where
     pub image-whole : length image ≡ imageBytes
-    pub undo-whole : length undo ≡ undoBytes
+    pub undo-whole : length undo ≡ undoBytes (t .setting)
     pub block-whole : length block ≡ blockBytes
 
   module _ (w : WriteSized) where
-    sizes : (WrongSize imageBytes image ⊎ (WrongSize undoBytes undo ⊎ WrongSize blockBytes block)) → ⊥
+    sizes : (WrongSize imageBytes image ⊎ (WrongSize (undoBytes (t .setting)) undo ⊎ WrongSize blockBytes block)) → ⊥
     sizes = ⊎-elim (λ n. n (w .image-whole)) (⊎-elim (λ n. n (w .undo-whole)) (λ n. n (w .block-whole)))
 
     pub write-unsound : (Sound t → ⊥) → WriteJudged t image undo block b 2

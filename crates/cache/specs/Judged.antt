@@ -1,27 +1,50 @@
 -- Inside this crate, need not be believed: what create and write know once their first refusals are judged. Private functions judge them; no public
 -- promise cites this file.
-use Prim.Native.Nat.{ℕ, _+_, _<_}
+use Prim.Native.Nat.{ℕ, _+_}
 use mathlib.Core.Path.{_≡_}
 use mathlib.Core.List.{List}
-use lib.ListN.{length}
 use Rattle.spans.specs.Spans.{splice, part}
 use Rattle.rules.specs.declared.Hold.{Hold}
 use Rattle.rules.specs.declared.Hold.the-variants as hold
 use Rattle.rules.specs.declared.Slot.{Slot}
-use Rattle.rules.specs.Sizes.{roomStart, blocks, blockBytes, imageBytes, undoBytes}
-use Rattle.rules.specs.Table.{Table, Sound, withSlots, withNext}
-use Rattle.rules.specs.Create.{Change, acceptedSlots}
-use Rattle.rules.specs.Refusals.{Case, First, Flies, Waits, createCases, writeCases}
-use Rattle.rules.specs.Passed.{CreatePassed, WriteReady}
+use Rattle.masks.specs.Sets.{setOf}
+use Rattle.rules.specs.Sizes.{roomStart}
+use Rattle.rules.specs.Table.{Table, used, withSlots, withNext}
+use Rattle.rules.specs.Create.{Change, HoldOf, acceptedSlots}
+use Rattle.rules.specs.Refusals.{Case, First, TakesSlot, NoRoom, createCases, writeCases}
+use Rattle.rules.specs.Calls.{Creates, createJoined}
+use Rattle.rules.specs.Passed.{CreateReady, WriteReady}
+use Rattle.cache.specs.declared.types.Created.{Created}
+use Rattle.cache.specs.Seen.{creation}
 
 -- k is 0 and the call is ready to go on, or it is the first of the call's cases that holds
 pub record Judged (cases : List Case) (Ready : Type 0) (k : ℕ) : Type 0 where
   pub refused : (k ≡ 0 → ⊥) → First cases k
   pub ready : k ≡ 0 → Ready
 
--- the refusals 1 to 8 of a create are judged
+-- the refusals 1 to 7 of a create are judged
 abbrev pub CreateJudged : Table → List ℕ → List ℕ → Change → ℕ → Type 0
-CreateJudged t image undo c = Judged (createCases t image undo c) (CreatePassed t image undo c)
+CreateJudged t image undo c = Judged (createCases t image undo c) (CreateReady t image undo c)
+
+-- none of 1 to 7 holds of a create, and it takes a slot; `in-use` are the slots in use
+pub record Taking (t : Table) (image undo : List ℕ) (c : Change) (in-use : ℕ) : Type 0 where
+  pub ready : CreateReady t image undo c
+  pub own : TakesSlot t c
+  pub is-used : in-use ≡ setOf (used (t .slots))
+
+-- and hard, or soft with its room, is known besides
+pub record TakingAs (t : Table) (image undo : List ℕ) (c : Change) (in-use : ℕ) (h : Hold) : Type 0 where
+  pub taking : Taking t image undo c in-use
+  pub held : HoldOf (t .setting) (t .slots) (c .block) h
+
+-- r and the image afterwards are what comes of a change that joins the patch of slot j, whatever the undo area holds
+abbrev pub Joined : Table → List ℕ → Change → ℕ → Created → List ℕ → Type 0
+Joined t image c j r image′ = (undo : List ℕ) → creation r image′ undo ≡ createJoined t image undo c j
+
+-- r is the answer to a creation that finds no room, whichever it is
+abbrev pub WithoutRoom : Table → ℕ → Created → Type 0
+WithoutRoom t in-use r =
+    (image undo : List ℕ) (c : Change) → Taking t image undo c in-use → NoRoom t c → Creates t image undo c (creation r image undo)
 
 -- the refusals 1 to 12 of a write are judged
 abbrev pub WriteJudged : Table → List ℕ → List ℕ → List ℕ → ℕ → ℕ → Type 0

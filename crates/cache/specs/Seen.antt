@@ -10,7 +10,7 @@ use Rattle.cache.specs.declared.types.Written.{Written}
 use Rattle.cache.specs.declared.types.Completed.{Completed}
 
 abbrev pub seen : Table → rules.Table
-seen t = rules.tableOf (t .first) (t .next) (t .slots)
+seen t = rules.tableOf (t .setting) (t .first) (t .next) (t .slots)
 
 abbrev pub opening : Opened → Opening
 opening r = record { answer = r .answer; table = seen (r .table) }

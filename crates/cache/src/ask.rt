@@ -19,8 +19,9 @@ impl Table {
     pub fn ask(self, number: u32) -> AskAnswer
         ensures { λ r. ⌜ Asks (seen self) number r ⌝ }
     {
+        let setting = self.setting;
         let slots = self.slots;
-        if !is_sound(self.first, self.next, slots) {
+        if !is_sound(setting, self.first, self.next, slots) {
             return AskAnswer::Refused(NOT_SOUND);
         }
         if number < self.first {
@@ -46,8 +47,9 @@ impl Table {
     pub fn count(self, block: u32) -> CountAnswer
         ensures { λ r. ⌜ Counts (seen self) block r ⌝ }
     {
+        let setting = self.setting;
         let slots = self.slots;
-        if !is_sound(self.first, self.next, slots) {
+        if !is_sound(setting, self.first, self.next, slots) {
             return CountAnswer::Refused(NOT_SOUND);
         }
         if LAST_BLOCK < block {

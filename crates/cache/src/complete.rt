@@ -16,8 +16,9 @@ impl Table {
     pub fn complete(self, block: u32) -> Completed
         ensures { λ r. ⌜ Completes (seen self) block (completion r) ⌝ }
     {
+        let setting = self.setting;
         let slots = self.slots;
-        if !is_sound(self.first, self.next, slots) {
+        if !is_sound(setting, self.first, self.next, slots) {
             return Completed {
                 table: self,
                 answer: Answer::Refused(NOT_SOUND),

@@ -1,21 +1,25 @@
-// Create: a change becomes a patch in the lowest free slot, with the number next.
+// Create: a change joins a waiting patch of its block, or becomes a patch in the lowest free slot, with
+// the number next.
 ghost use Prim.Native.Nat.{_+_, _≤_, _<_};
 ghost use lib.ListN.{length};
 ghost use mathlib.Core.Path.{_≡_};
 ghost use Rattle.ground.specs.Decides.{Decides};
-ghost use Rattle.rules.specs.Sizes.{mostBytes};
+ghost use Rattle.rules.specs.Sizes.{slots, blockStart, mostBytes};
+ghost use Rattle.spans.specs.Spans.{splice};
 ghost use Rattle.rules.specs.Table.{Sound};
 ghost use Rattle.rules.specs.Create.{changeOf, patch};
 ghost use Rattle.rules.specs.Calls.{Creates};
 ghost use Rattle.cache.specs.Seen.{seen, creation};
-ghost use Rattle.cache.specs.Judged.{CreateJudged, keptAt, withPatch};
+ghost use Rattle.cache.specs.Judged.{CreateJudged, Joined, TakingAs, WithoutRoom, keptAt, withPatch};
 use crate::types::Created;
 use crate::types::Table;
 use accept::accepted::accepted;
+use accept::accepted::joined;
+use accept::befores::added;
 use accept::befores::befores;
-use accept::hold::hold_for;
+use accept::entry::entry_for;
 use accept::named::unissued;
-use accept::types::Holding;
+use accept::types::Entry;
 use rules::CreateAnswer;
 use rules::Hold;
 use rules::Slot;
@@ -39,7 +43,7 @@ use rules::sizes::MOST_BYTES;
 use rules::sizes::MOST_NAMED;
 use rules::sizes::ROOM_BYTES;
 use rules::sizes::SLOTS;
-use rules::sizes::UNDO_BYTES;
+use slots::setting::undo_bytes;
 use slots::sound::judge;
 
 // The old bytes of a soft patch's range, n from place `at`, into the first bytes of its room.
@@ -51,8 +55,22 @@ fn keep(undo: &mut [u8], image: &[u8], hold: Hold, at: usize, n: usize)
     }
 }
 
+// Where the range of a change starts in the working image.
+fn place(block: u32, offset: u32) -> usize
+    ensures { λ r. ⌜ r ≡ blockStart block + offset ⌝ }
+{
+    BLOCK_BYTES * (block as usize) + (offset as usize)
+}
+
+// The data into the working image, from place `at`.
+fn put(image: &mut [u8], at: usize, bytes: &[u8])
+    ensures { λ _. ⌜ now (image .exit) ≡ splice (now (image .entry)) at (now (bytes .entry)) ⌝ }
+{
+    spans::copy(image, at, bytes, 0, bytes.len());
+}
+
 impl Table {
-    // The first of the refusals 1 to 8 that holds, or 0; `sound` says whether the table is. No sum is
+    // The first of the refusals 1 to 7 that holds, or 0; `sound` says whether the table is. No sum is
     // formed before its parts are bounded.
     fn create_refusal(
         self,
@@ -71,7 +89,8 @@ impl Table {
         if image.len() != IMAGE_BYTES {
             return BUFFER_SIZE;
         }
-        if undo.len() != UNDO_BYTES {
+        let setting = self.setting;
+        if undo.len() != undo_bytes(setting) {
             return BUFFER_SIZE;
         }
         if !sound {
@@ -94,9 +113,6 @@ impl Table {
         }
         if unissued(self.first, self.next, named) {
             return NEVER_ISSUED;
-        }
-        if self.next == LAST_NEXT {
-            return NO_NUMBER;
         }
         0
     }
@@ -128,6 +144,94 @@ impl Table {
         next
     }
 
+    // The change joins the patch of slot j, and that one's number is the answer. The undo area is not
+    // asked for: nothing is kept.
+    fn join(
+        self,
+        image: &mut [u8],
+        block: u32,
+        offset: u32,
+        bytes: &[u8],
+        named: &[u32],
+        j: usize,
+    ) -> Created
+        requires { ⌜ j < slots ⌝ }
+        ensures { λ r. ⌜ Joined (seen self) (now (image .entry))
+            (changeOf block offset (now (bytes .entry)) (now (named .entry))) j r (now (image .exit)) ⌝ }
+    {
+        let slots = self.slots;
+        let s = slots[j];
+        put(image, place(block, offset), bytes);
+        let more = added(slots, block, named);
+        Created {
+            table: self.with_slots(joined(slots, block, more, j)),
+            answer: CreateAnswer::Granted(s.number, Hold::Hard),
+        }
+    }
+
+    // The change takes a slot outside the set `used`, hard or soft as it is: 8 and 9 are judged, then the
+    // patch is made.
+    fn take(
+        self,
+        image: &mut [u8],
+        undo: &mut [u8],
+        block: u32,
+        offset: u32,
+        bytes: &[u8],
+        named: &[u32],
+        used: u64,
+        hold: Hold,
+    ) -> Created
+        requires { ⌜ TakingAs (seen self) (now image) (now undo) (changeOf block offset (now bytes) (now named)) used hold ⌝ }
+        ensures { λ r. ⌜ Creates (seen self) (now (image .entry)) (now (undo .entry))
+            (changeOf block offset (now (bytes .entry)) (now (named .entry)))
+            (creation r (now (image .exit)) (now (undo .exit))) ⌝ }
+    {
+        if self.next == LAST_NEXT {
+            return Created {
+                table: self,
+                answer: CreateAnswer::Refused(NO_NUMBER),
+            };
+        }
+        let j = masks::lowest_outside(used, SLOTS);
+        if LAST_SLOT < j {
+            return Created {
+                table: self,
+                answer: CreateAnswer::Refused(NO_SLOT),
+            };
+        }
+        let patch = self.patch(block, offset, bytes, named, hold);
+        let at = place(block, offset);
+        keep(undo, image, hold, at, bytes.len());
+        put(image, at, bytes);
+        Created {
+            table: self.with_patch(patch, j, hold),
+            answer: CreateAnswer::Granted(self.next, hold),
+        }
+    }
+
+    // No room is free: 8 and 9 come before 10.
+    fn without_room(self, used: u64) -> Created
+        ensures { λ r. ⌜ WithoutRoom (seen self) used r ⌝ }
+    {
+        if self.next == LAST_NEXT {
+            return Created {
+                table: self,
+                answer: CreateAnswer::Refused(NO_NUMBER),
+            };
+        }
+        if LAST_SLOT < masks::lowest_outside(used, SLOTS) {
+            return Created {
+                table: self,
+                answer: CreateAnswer::Refused(NO_SLOT),
+            };
+        }
+        Created {
+            table: self,
+            answer: CreateAnswer::Refused(NO_ROOM),
+        }
+    }
+
     pub fn create(
         self,
         image: &mut [u8],
@@ -141,8 +245,9 @@ impl Table {
             (changeOf block offset (now (bytes .entry)) (now (named .entry)))
             (creation r (now (image .exit)) (now (undo .exit))) ⌝ }
     {
+        let setting = self.setting;
         let slots = self.slots;
-        let verdict = judge(self.first, self.next, slots);
+        let verdict = judge(setting, self.first, self.next, slots);
         let refusal = self.create_refusal(image, undo, block, offset, bytes, named, verdict.sound);
         if refusal != 0 {
             return Created {
@@ -150,26 +255,20 @@ impl Table {
                 answer: CreateAnswer::Refused(refusal),
             };
         }
-        let j = masks::lowest_outside(verdict.used, SLOTS);
-        if LAST_SLOT < j {
-            return Created {
-                table: self,
-                answer: CreateAnswer::Refused(NO_SLOT),
-            };
-        }
-        let Holding::Of(hold) = hold_for(slots, block, verdict.rooms) else {
-            return Created {
-                table: self,
-                answer: CreateAnswer::Refused(NO_ROOM),
-            };
-        };
-        let patch = self.patch(block, offset, bytes, named, hold);
-        let at = (block as usize) * BLOCK_BYTES + (offset as usize);
-        keep(undo, image, hold, at, bytes.len());
-        spans::copy(image, at, bytes, 0, bytes.len());
-        Created {
-            table: self.with_patch(patch, j, hold),
-            answer: CreateAnswer::Granted(self.next, hold),
+        let entry = entry_for(setting, slots, block, verdict.rooms);
+        match entry {
+            Entry::Joins(j) => self.join(image, block, offset, bytes, named, j),
+            Entry::Own(hold) => self.take(
+                image,
+                undo,
+                block,
+                offset,
+                bytes,
+                named,
+                verdict.used,
+                hold,
+            ),
+            Entry::Full => self.without_room(verdict.used),
         }
     }
 }

@@ -6,41 +6,43 @@ ghost use mathlib.Core.Path.{_≡_};
 use crate::types::Opened;
 use crate::types::Table;
 use rules::Answer;
+use rules::Setting;
 use rules::refusals::FIRST_NUMBER;
 use rules::sizes::LAST_NUMBER;
 use rules::sizes::SLOTS;
 use slots::slot::free;
 
 impl Table {
-    // The empty table whose first and next number are n.
-    fn empty(n: u32) -> Table
-        ensures { λ r. ⌜ seen r ≡ opened n ⌝ }
+    // The empty table with the setting whose first and next number are n.
+    fn empty(setting: Setting, n: u32) -> Table
+        ensures { λ r. ⌜ seen r ≡ opened setting n ⌝ }
     {
         let slot = free();
         Table {
+            setting,
             first: n,
             next: n,
             slots: [slot; SLOTS],
         }
     }
 
-    pub fn open(first: u32) -> Opened
-        ensures { λ r. ⌜ Opens first (opening r) ⌝ }
+    pub fn open(setting: Setting, first: u32) -> Opened
+        ensures { λ r. ⌜ Opens setting first (opening r) ⌝ }
     {
         if first == 0 {
             return Opened {
-                table: Table::empty(1),
+                table: Table::empty(setting, 1),
                 answer: Answer::Refused(FIRST_NUMBER),
             };
         }
         if LAST_NUMBER < first {
             return Opened {
-                table: Table::empty(1),
+                table: Table::empty(setting, 1),
                 answer: Answer::Refused(FIRST_NUMBER),
             };
         }
         Opened {
-            table: Table::empty(first),
+            table: Table::empty(setting, first),
             answer: Answer::Granted,
         }
     }

@@ -2,13 +2,15 @@
 // by which these promise can name them.
 use rules::Answer;
 use rules::CreateAnswer;
+use rules::Setting;
 use rules::Slot;
 use rules::WriteAnswer;
 use rules::sizes::SLOTS;
 
-// First and next number, and 64 slots. It sits in memory that survives the radio's sleep, so every
-// call takes it as input like the rest.
+// The setting that it was opened with, first and next number, and 64 slots. It sits in memory that
+// survives the radio's sleep, so every call takes it as input like the rest.
 pub struct Table {
+    pub setting: Setting,
     pub first: u32,
     pub next: u32,
     pub slots: [Slot; SLOTS],

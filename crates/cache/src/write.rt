@@ -15,11 +15,11 @@ use rules::refusals::NOT_SOUND;
 use rules::sizes::BLOCK_BYTES;
 use rules::sizes::IMAGE_BYTES;
 use rules::sizes::LAST_BLOCK;
-use rules::sizes::UNDO_BYTES;
 use send::hand_out::hand_out;
 use send::largest::largest;
 use send::sent::sent;
 use slots::patches::patches_on;
+use slots::setting::undo_bytes;
 use slots::sound::is_sound;
 use slots::types::Patches;
 
@@ -32,14 +32,15 @@ impl Table {
         if image.len() != IMAGE_BYTES {
             return BUFFER_SIZE;
         }
-        if undo.len() != UNDO_BYTES {
+        let setting = self.setting;
+        if undo.len() != undo_bytes(setting) {
             return BUFFER_SIZE;
         }
         if handed.len() != BLOCK_BYTES {
             return BUFFER_SIZE;
         }
         let slots = self.slots;
-        if !is_sound(self.first, self.next, slots) {
+        if !is_sound(setting, self.first, self.next, slots) {
             return NOT_SOUND;
         }
         if LAST_BLOCK < block {

@@ -39,7 +39,7 @@ pub fn with_if(set: u64, i: usize, goes: bool) -> u64
 }
 
 // The set of the slots that are in a or in b.
-pub fn joined(a: u64, b: u64) -> u64
+pub fn either(a: u64, b: u64) -> u64
     ensures { λ r. ⌜ r ≡ setOf (λ k. has a k || has b k) ⌝ }
 {
     a | b

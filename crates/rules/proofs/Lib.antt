@@ -4,6 +4,7 @@ pub mod Outcomes
 pub mod SlotsBy
 pub mod After
 pub mod Words
+pub mod Rooms
 pub mod HardOrSoft
 pub mod Largest
 pub mod Rounds

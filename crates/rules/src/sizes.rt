@@ -7,9 +7,10 @@ pub const LAST_SLOT: usize = 63;
 
 pub const LAST_BLOCK: u32 = 63;
 
+// Undo rooms: on the board, and where undo is measured.
 pub const ROOMS: usize = 16;
 
-pub const LAST_ROOM: u32 = 15;
+pub const MORE_ROOMS: usize = 64;
 
 pub const LAST_NUMBER: u32 = 1000000000;
 
@@ -20,6 +21,7 @@ pub const MOST_NAMED: usize = 8;
 // In bytes.
 pub const IMAGE_BYTES: usize = 16384;
 
+// The undo area of the board.
 pub const UNDO_BYTES: usize = 1024;
 
 pub const BLOCK_BYTES: usize = 256;

@@ -11,6 +11,7 @@ use Rattle.ground.proofs.Decided.{and-true}
 use Rattle.masks.proofs.Laws.{has-of}
 use Rattle.spans.specs.Spans.{part}
 use Rattle.spans.proofs.Laws.{splice-whole, length-part}
+use Rattle.rules.specs.declared.Setting.{Setting}
 use Rattle.rules.specs.declared.Slot.{Slot}
 use Rattle.rules.specs.Sizes.{blocks, blockBytes, blockStart, imageBytes}
 use Rattle.rules.specs.Table.{Sound, tableOf, used, waitsOn}
@@ -19,9 +20,9 @@ use Rattle.rules.proofs.TakenBack.{from-first, down-ext}
 use Rattle.rules.proofs.Words.{waits-on-used}
 use Rattle.send.specs.Handed.{handed, staying}
 
-module _ (first next b s : ℕ) (ss : List Slot) (image undo out : List ℕ) where
-  pub handed-out : {waiting : ℕ} → Sound (tableOf first next ss) → b < blocks → length image ≡ imageBytes → length out ≡ blockBytes
-      → waiting ≡ setOf (waitsOn ss b) → handed ss (staying waiting s) b next image undo out ≡ handedOut (tableOf first next ss) b s image undo
+module _ (g : Setting) (first next b s : ℕ) (ss : List Slot) (image undo out : List ℕ) where
+  pub handed-out : {waiting : ℕ} → Sound (tableOf g first next ss) → b < blocks → length image ≡ imageBytes → length out ≡ blockBytes
+      → waiting ≡ setOf (waitsOn ss b) → handed ss (staying waiting s) b next image undo out ≡ handedOut (tableOf g first next ss) b s image undo
   unfolding handed handedOut
   handed-out {waiting} z l ei eo ew =
       ap (backDown ss (staying waiting s) undo 0 next) (splice-whole out block (length-part image (blockStart b) blockBytes (omega arith) ∙ sym eo))

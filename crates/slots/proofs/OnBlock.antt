@@ -4,8 +4,7 @@ use mathlib.Core.Path.{_≡_}
 use mathlib.Core.List.{List}
 use Rattle.masks.proofs.Laws.{set-none, set-some}
 use Rattle.rules.specs.declared.Slot.{Slot}
-use Rattle.rules.specs.Table.{waitsOn, fliesOn}
-use Rattle.rules.specs.Refusals.{Flies, Waits}
+use Rattle.rules.specs.Table.{waitsOn, fliesOn, Flies, Waits}
 use Rattle.slots.specs.declared.types.Patches.{Patches}
 use Rattle.slots.specs.Walks.{PatchesOn}
 

@@ -8,6 +8,7 @@ use native.Mathlib.Omega.{arith}
 use lib.Seq.{ext-getD}
 use Rattle.masks.specs.Sets.{setOf}
 use Rattle.ground.proofs.Decided.{decides-one}
+use Rattle.rules.specs.declared.Setting.{Setting}
 use Rattle.rules.specs.declared.Slot.{Slot}
 use Rattle.rules.specs.Table.{Sound, tableOf, used}
 use Rattle.slots.specs.declared.types.Patches.{Patches}
@@ -33,12 +34,12 @@ patches-one x y = λ i. record {
   in_flight = (x .in-flight ∙ sym (y .in-flight)) i;
 }
 
-pub verdict-one : {first next : ℕ} {ss : List Slot} {v w : Verdict} → IsVerdict first next ss v → IsVerdict first next ss w → v ≡ w
-verdict-one {first} {next} {ss} {v} {w} p q = λ i. record {
+pub verdict-one : {g : Setting} {first next : ℕ} {ss : List Slot} {v w : Verdict} → IsVerdict g first next ss v → IsVerdict g first next ss w → v ≡ w
+verdict-one {g} {first} {next} {ss} {v} {w} p q = λ i. record {
   sound = same i;
   used = (p .used-slots ∙ ap (λ (s : Bool). cond s (setOf (used ss)) 0) same ∙ sym (q .used-slots)) i;
   rooms = (p .taken-rooms ∙ ap (λ (s : Bool). cond s (takenRooms ss) 0) same ∙ sym (q .taken-rooms)) i;
 }
   where
     same : v .sound ≡ w .sound
-    same = decides-one (Sound (tableOf first next ss)) (v .sound) (w .sound) (p .decides) (q .decides)
+    same = decides-one (Sound (tableOf g first next ss)) (v .sound) (w .sound) (p .decides) (q .decides)

@@ -9,12 +9,15 @@ use native.Mathlib.Omega.{arith}
 use Rattle.masks.specs.Sets.{has, setOf, within}
 use Rattle.ground.proofs.Decided.{and-true, true-and}
 use Rattle.masks.proofs.Laws.{has-of, within-at, at-within}
+use Rattle.rules.specs.declared.Setting.{Setting}
 use Rattle.rules.specs.declared.Slot.{Slot}
-use Rattle.rules.specs.Sizes.{slots, rooms}
+use Rattle.rules.specs.Sizes.{slots}
+use Rattle.rules.specs.Settings.{rooms}
 use Rattle.rules.specs.Table.{Sound, tableOf, used, slotAt, HasRoom}
 use Rattle.slots.specs.SlotSound.{HeaderInRange, Alone, unsound}
 use Rattle.slots.specs.declared.types.Verdict.{Verdict}
 use Rattle.slots.specs.Walks.{Carries, IsVerdict}
+use Rattle.rules.proofs.Rooms.{some-room}
 use Rattle.rules.proofs.Words.{room-is, room-below, has-room-used}
 use Rattle.slots.proofs.Gathered.{gathered, gathered-all, gathered-only}
 
@@ -27,8 +30,8 @@ abbrev pub NumberApart : List Slot → ℕ → Type 0
 NumberApart ss i = (j : ℕ) → j < i → Carries ss (slotAt ss i .number) j → ⊥
 
 -- what judge tests of slot i, but for its befores
-pub record Tested (first next : ℕ) (ss : List Slot) (i : ℕ) : Type 0 where
-  pub alone : used ss i ≡ true → Alone first next i (slotAt ss i)
+pub record Tested (first next n : ℕ) (ss : List Slot) (i : ℕ) : Type 0 where
+  pub alone : used ss i ≡ true → Alone first next n i (slotAt ss i)
   pub number : used ss i ≡ true → NumberApart ss i
   pub room : RoomApart ss i
 
@@ -46,8 +49,8 @@ below-same f flip i j l m h = by (decLt i j) (decLt j i)
     by (no n) (yes b) = absurd (f i j l b h)
     by (no n) (no k) = omega arith
 
-module _ {first next : ℕ} {ss : List Slot} where
-  pub sound-tested : Sound (tableOf first next ss) → (i : ℕ) → i < slots → Tested first next ss i
+module _ {g : Setting} {first next n : ℕ} {ss : List Slot} (has-rooms : n ≡ rooms g) where
+  pub sound-tested : Sound (tableOf g first next ss) → (i : ℕ) → i < slots → Tested first next n ss i
   sound-tested s i l = record {
     alone = λ u. record {
       range = record {
@@ -59,21 +62,21 @@ module _ {first next : ℕ} {ss : List Slot} where
         ends = s .ends i l u;
       };
       befores-other = s .befores-other i l u;
-      room-most = room-below (slotAt ss i .state) rooms (omega arith) (λ r e. s .room-most i r l e);
+      room-most = room-below (slotAt ss i .state) n (rw has-rooms (some-room g)) (λ r e. rw has-rooms (s .room-most i r l e));
     };
     number = λ u j b v. let q = s .numbers-differ j i (omega arith) l (v .0) u (v .1) in omega arith;
     room = λ j r b e f. let q = s .rooms-differ i j r l (omega arith) e f in omega arith;
   }
 
   -- all befores m of a sound table are slots in use
-  module _ {m n : ℕ} (befores : m ≡ gathered (follows ss) slots) (is-used : n ≡ setOf (used ss)) where
-    pub sound-within : Sound (tableOf first next ss) → within m n ≡ true
-    sound-within s = at-within m n (λ k l h.
+  module _ {m u : ℕ} (befores : m ≡ gathered (follows ss) slots) (is-used : u ≡ setOf (used ss)) where
+    pub sound-within : Sound (tableOf g first next ss) → within m u ≡ true
+    sound-within s = at-within m u (λ k l h.
         let z = gathered-only (follows ss) befores k l h in
         let w = and-true (used ss (z .0)) _ (z .2) in
-        has-of (used ss) n k is-used l ∙ s .befores-used (z .0) k (z .1) l (w .0) (w .1))
+        has-of (used ss) u k is-used l ∙ s .befores-used (z .0) k (z .1) l (w .0) (w .1))
 
-    pub tested-sound : HeaderInRange first next → ((i : ℕ) → i < slots → Tested first next ss i) → within m n ≡ true → Sound (tableOf first next ss)
+    pub tested-sound : HeaderInRange first next → ((i : ℕ) → i < slots → Tested first next n ss i) → within m u ≡ true → Sound (tableOf g first next ss)
     tested-sound h t inside = record {
       first-least = h .first-least;
       first-most = h .first-most;
@@ -89,14 +92,14 @@ module _ {first next : ℕ} {ss : List Slot} where
       len-least = λ i l u. t i l .alone u .range .len-least;
       len-most = λ i l u. t i l .alone u .range .len-most;
       ends = λ i l u. t i l .alone u .range .ends;
-      befores-used = λ i j l k u h.
-          sym (has-of (used ss) n j is-used k) ∙ within-at m n j inside k (gathered-all (follows ss) befores i j l k (true-and u h));
+      befores-used = λ i j l k v h.
+          sym (has-of (used ss) u j is-used k) ∙ within-at m u j inside k (gathered-all (follows ss) befores i j l k (true-and v h));
       befores-other = λ i l u. t i l .alone u .befores-other;
-      room-most = λ i r l e. subst (λ (q : ℕ). q < rooms) (room-is (slotAt ss i .state) r e) (t i l .alone (has-room-used ss i r e) .room-most);
+      room-most = λ i r l e. rw (sym has-rooms) (subst (λ (q : ℕ). q < n) (room-is (slotAt ss i .state) r e) (t i l .alone (has-room-used ss i r e) .room-most));
       rooms-differ = λ i j r l k e f.
           below-same {P = λ i j. HasRoom ss i r × HasRoom ss j r} (λ i j l b h. t i l .room j r b (h .0) (h .1)) (λ i j h. (h .1, h .0)) i j l k (e, f);
     }
 
 -- the verdict on a table that is not sound
-pub not-sound : {first next : ℕ} {ss : List Slot} {v : Verdict} → v ≡ unsound → (Sound (tableOf first next ss) → ⊥) → IsVerdict first next ss v
-not-sound {first} {next} {ss} e n = subst (IsVerdict first next ss) (sym e) (record { decides = n; used-slots = refl; taken-rooms = refl })
+pub not-sound : {g : Setting} {first next : ℕ} {ss : List Slot} {v : Verdict} → v ≡ unsound → (Sound (tableOf g first next ss) → ⊥) → IsVerdict g first next ss v
+not-sound {g} {first} {next} {ss} e n = subst (IsVerdict g first next ss) (sym e) (record { decides = n; used-slots = refl; taken-rooms = refl })

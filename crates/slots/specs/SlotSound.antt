@@ -9,7 +9,7 @@ use Rattle.masks.specs.Sets.{has}
 use Rattle.rules.specs.declared.Slot.{Slot}
 use Rattle.rules.specs.Slots.{roomOf}
 use Rattle.slots.specs.declared.types.Verdict.{Verdict}
-use Rattle.rules.specs.Sizes.{blocks, blockBytes, rooms, mostBytes, lastNumber}
+use Rattle.rules.specs.Sizes.{blocks, blockBytes, mostBytes, lastNumber}
 
 -- first is 1 to 1,000,000,000; next is from first to 1,000,000,001
 pub record HeaderInRange (first next : ℕ) : Type 0 where
@@ -27,11 +27,11 @@ pub record InRange (first next : ℕ) (s : Slot) : Type 0 where
   pub len-most : s .len ≤ mostBytes
   pub ends : s .offset + s .len ≤ blockBytes
 
--- a patch in slot i is sound by itself
-pub record Alone (first next i : ℕ) (s : Slot) : Type 0 where
+-- a patch in slot i is sound by itself, where there are n rooms
+pub record Alone (first next n i : ℕ) (s : Slot) : Type 0 where
   pub range : InRange first next s
   pub befores-other : has (s .befores) i ≡ true → ⊥
-  pub room-most : roomOf (s .state) < rooms
+  pub room-most : roomOf (s .state) < n
 
 -- the mark of the number n is among the marks ms: it is chosen by the ten lowest binary digits of n
 abbrev pub marked : List ℕ → ℕ → Bool

@@ -6,6 +6,7 @@ use mathlib.Core.List.{List}
 use lib.ListN.{length, getD}
 use Rattle.ground.specs.Decides.{Decides}
 use Rattle.masks.specs.Sets.{setOf, someBelow}
+use Rattle.rules.specs.declared.Setting.{Setting}
 use Rattle.rules.specs.declared.Slot.{Slot}
 use Rattle.rules.specs.Sizes.{slots}
 use Rattle.rules.specs.Slots.{hasRoom}
@@ -39,7 +40,7 @@ pub record PatchesOn (ss : List Slot) (b : ℕ) (p : Patches) : Type 0 where
   pub in-flight : p .in_flight ≡ setOf (fliesOn ss b)
 
 -- v says whether the table is sound, which slots are in use and which rooms are taken; of a table that is not sound it says no slot and no room
-pub record IsVerdict (first next : ℕ) (ss : List Slot) (v : Verdict) : Type 0 where
-  pub decides : Decides (Sound (tableOf first next ss)) (v .sound)
+pub record IsVerdict (g : Setting) (first next : ℕ) (ss : List Slot) (v : Verdict) : Type 0 where
+  pub decides : Decides (Sound (tableOf g first next ss)) (v .sound)
   pub used-slots : v .used ≡ cond (v .sound) (setOf (used ss)) 0
   pub taken-rooms : v .rooms ≡ cond (v .sound) (takenRooms ss) 0

@@ -1,6 +1,7 @@
 // The 64 slots as the calls read them: words on one slot, walks over all, the patches of a block,
-// whether a table is sound; and one slot made from another.
+// whether a table is sound; one slot made from another; and what a setting says.
 pub mod patches;
+pub mod setting;
 pub mod slot;
 pub mod sound;
 pub mod types;

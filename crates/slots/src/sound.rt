@@ -7,18 +7,19 @@ ghost use Rattle.rules.specs.Slots.{hasRoom};
 ghost use Rattle.rules.specs.Table.{Sound, tableOf};
 ghost use Rattle.slots.specs.SlotSound.{HeaderInRange, InRange, Alone, Marking, unsound};
 ghost use Rattle.slots.specs.Walks.{IsVerdict};
+use crate::setting::rooms;
 use crate::types::Verdict;
 use crate::walks::find;
 use crate::words::is_used;
 use crate::words::room_of;
 use rules::Hold;
+use rules::Setting;
 use rules::Slot;
 use rules::State;
 use rules::sizes::BLOCK_END;
 use rules::sizes::LAST_BLOCK;
 use rules::sizes::LAST_NEXT;
 use rules::sizes::LAST_NUMBER;
-use rules::sizes::LAST_ROOM;
 use rules::sizes::MOST_LEN;
 use rules::sizes::SLOTS;
 
@@ -66,9 +67,9 @@ fn in_range(s: Slot, first: u32, next: u32) -> bool
     true
 }
 
-// Whether the patch of slot i is sound by itself.
-fn sound_alone(s: Slot, i: usize, first: u32, next: u32) -> bool
-    ensures { λ r. ⌜ Decides (Alone first next i s) r ⌝ }
+// Whether the patch of slot i is sound by itself, where there are so many rooms.
+fn sound_alone(s: Slot, i: usize, first: u32, next: u32, rooms: usize) -> bool
+    ensures { λ r. ⌜ Decides (Alone first next rooms i s) r ⌝ }
 {
     if !in_range(s, first, next) {
         return false;
@@ -77,14 +78,14 @@ fn sound_alone(s: Slot, i: usize, first: u32, next: u32) -> bool
         return false;
     }
     let u = s.state;
-    if LAST_ROOM < room_of(u) {
+    if rooms <= room_of(u) as usize {
         return false;
     }
     true
 }
 
 // The undo room of a patch as a set: rooms gathered in a set are looked up without a walk. No set
-// has a room above 63, and a sound table has none above 15.
+// has a room above 63, and neither has a sound table.
 fn room_set(u: State) -> u64
     ensures { λ r. ⌜ r ≡ setOf (hasRoom u) ⌝ }
 {
@@ -124,14 +125,15 @@ fn unsound() -> Verdict
 // The first and the next number, then slot by slot. What is asked of a patch beside others is
 // gathered along the way, so that one walk does: the rooms, the slots in use, all befores, and the
 // marks of the numbers, of which only one that is there already asks for a search.
-pub fn judge(first: u32, next: u32, slots: [Slot; SLOTS]) -> Verdict
-    ensures { λ r. ⌜ IsVerdict first next slots r ⌝ }
+pub fn judge(setting: Setting, first: u32, next: u32, slots: [Slot; SLOTS]) -> Verdict
+    ensures { λ r. ⌜ IsVerdict setting first next slots r ⌝ }
 {
     if !header_in_range(first, next) {
         return unsound();
     }
+    let most = rooms(setting);
     let mut marks: [u64; 16] = [0; 16];
-    let mut rooms: u64 = 0;
+    let mut taken: u64 = 0;
     let mut used: u64 = 0;
     let mut befores: u64 = 0;
     for i in 0..SLOTS {
@@ -140,7 +142,7 @@ pub fn judge(first: u32, next: u32, slots: [Slot; SLOTS]) -> Verdict
         if !is_used(u) {
             continue;
         }
-        if !sound_alone(s, i, first, next) {
+        if !sound_alone(s, i, first, next, most) {
             return unsound();
         }
         if mark(&mut marks, s.number) {
@@ -149,12 +151,12 @@ pub fn judge(first: u32, next: u32, slots: [Slot; SLOTS]) -> Verdict
             }
         }
         let room = room_set(u);
-        if masks::meets(rooms, room) {
+        if masks::meets(taken, room) {
             return unsound();
         }
-        rooms = masks::joined(rooms, room);
+        taken = masks::either(taken, room);
         used = masks::with(used, i);
-        befores = masks::joined(befores, s.befores);
+        befores = masks::either(befores, s.befores);
     }
     if !masks::within(befores, used) {
         return unsound();
@@ -162,13 +164,13 @@ pub fn judge(first: u32, next: u32, slots: [Slot; SLOTS]) -> Verdict
     Verdict {
         sound: true,
         used,
-        rooms,
+        rooms: taken,
     }
 }
 
-pub fn is_sound(first: u32, next: u32, slots: [Slot; SLOTS]) -> bool
-    ensures { λ r. ⌜ Decides (Sound (tableOf first next slots)) r ⌝ }
+pub fn is_sound(setting: Setting, first: u32, next: u32, slots: [Slot; SLOTS]) -> bool
+    ensures { λ r. ⌜ Decides (Sound (tableOf setting first next slots)) r ⌝ }
 {
-    let verdict = judge(first, next, slots);
+    let verdict = judge(setting, first, next, slots);
     verdict.sound
 }

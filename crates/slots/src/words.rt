@@ -1,7 +1,8 @@
 // What several files and crates ask of the state of one slot.
 ghost use mathlib.Core.Path.{_≡_};
-ghost use Rattle.rules.specs.Slots.{isUsed, roomOf};
+ghost use Rattle.rules.specs.Slots.{isUsed, isHardPatch, roomOf};
 use rules::Hold;
+use rules::Kind;
 use rules::State;
 
 pub fn is_used(u: State) -> bool
@@ -11,6 +12,23 @@ pub fn is_used(u: State) -> bool
         State::Free => false,
         State::Waiting(_) => true,
         State::InFlight(_) => true,
+    }
+}
+
+// Hard, whether it waits or is in flight.
+pub fn is_hard_patch(u: State) -> bool
+    ensures { λ r. ⌜ r ≡ isHardPatch u ⌝ }
+{
+    match u {
+        State::Free => false,
+        State::Waiting(h) => match h {
+            Hold::Hard => true,
+            Hold::Soft(_) => false,
+        },
+        State::InFlight(k) => match k {
+            Kind::Hard => true,
+            Kind::Soft => false,
+        },
     }
 }
 

@@ -1,22 +1,16 @@
 -- `accept::accepted::accepted` meets its contract: the slots as the creation turns them, then the patch in slot j. Assumes nothing.
-use Prim.Native.Nat.{ℕ, _≤_, _<_}
+use Prim.Native.Nat.{ℕ}
 use mathlib.Core.Path.{_≡_, refl, sym, ap, _∙_}
-use mathlib.Core.Bool.{cond}
 use mathlib.Core.List.{List}
 use mathlib.Core.Logic.{⊎-elim}
-use native.Mathlib.Decide.{ℕ-discrete}
-use native.Mathlib.Omega.{arith}
-use borrow.Author.Tests.{eq-eqb, ne-eqb}
-use lib.Dec.{eqb}
-use lib.ListN.{length, set, length-set}
-use lib.Seq.{getD-set-same, getD-set-other, set-out}
+use lib.ListN.{length, set}
 use Rattle.rules.specs.declared.Hold.{Hold}
 use Rattle.rules.specs.declared.Slot.{Slot}
 use Rattle.rules.specs.Sizes.{slots}
-use Rattle.rules.specs.Slots.{freeSlot}
 use Rattle.rules.specs.Table.{slotAt, slotsBy}
 use Rattle.rules.specs.Create.{turned, acceptedSlots}
-use Rattle.rules.proofs.SlotsBy.{slot-by, length-by, slots-are}
+use Rattle.rules.proofs.SlotsBy.{slots-are}
+use Rattle.accept.proofs.SetOne.{set-by, set-past}
 use borrow.Author.Needs.{needs}
 use Rattle.accept.proofs.accepted.accepted.Statement.{statement}
 use Rattle.accept.proofs.accepted.accepted.Tie as tie
@@ -52,17 +46,6 @@ slots-turned c =
     ⊎-elim (λ w. w .3 ∙ w .2 .ensures ∙ sym (ap by (w .1 .given .1)))
     (λ w. w .2 ∙ slots-are (a .slots) (slotAt (a .slots)) (all-there (c .before)) (λ i l. refl) ∙ sym (ap by (w .1 .given .1)))
     (c .match .came)
-
--- the slots with slot j set, whatever j is
-set-by : (f : ℕ → Slot) (j : ℕ) (s : Slot) → set (slotsBy f) j s ≡ slotsBy (λ i. cond (eqb i j) s (f i))
-set-by f j s = slots-are (set (slotsBy f) j s) _ (length-set (slotsBy f) j s ∙ length-by f) (λ i l. at i l (ℕ-discrete i j))
-  where
-    at : (i : ℕ) → i < slots → Dec (i ≡ j) → slotAt (set (slotsBy f) j s) i ≡ cond (eqb i j) s (f i)
-    at i l (yes e) = rw (← e, eq-eqb i i refl) (getD-set-same (slotsBy f) i s freeSlot (omega (arith, length-by f)))
-    at i l (no n) = rw (ne-eqb i j n) (getD-set-other (slotsBy f) j i s freeSlot n ∙ slot-by f i l)
-
-set-past : (f : ℕ → Slot) (j : ℕ) (s : Slot) → slots ≤ j → slotsBy f ≡ slotsBy (λ i. cond (eqb i j) s (f i))
-set-past f j s l = sym (set-out (slotsBy f) j s (omega (arith, length-by f))) ∙ set-by f j s
 
 returns : tie.Need-returns
 unfolding acceptedSlots

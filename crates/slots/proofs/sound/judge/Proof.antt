@@ -16,6 +16,7 @@ use Rattle.masks.proofs.Laws as sets
 use Rattle.rules.specs.declared.Slot.{Slot}
 use Rattle.rules.specs.Table.{Sound, tableOf, used, slotAt}
 use Rattle.slots.specs.SlotSound.{HeaderInRange, Alone, marked}
+use Rattle.rules.proofs.Rooms.{rooms-most}
 use Rattle.rules.proofs.Words.{room-is, has-room-used}
 use Rattle.slots.proofs.Gathered.{gathered, gathered-none, gathered-pass, gathered-more}
 use Rattle.slots.proofs.Rooms.{roomed, free-roomless, rooms-more, meets-shares, shares-meets}
@@ -27,24 +28,24 @@ use Rattle.slots.proofs.sound.judge.Tie as tie
 abbrev MarkedBelow : List Slot → ℕ → List ℕ → Type 0
 MarkedBelow ss i marks = (k : ℕ) → k < i → used ss k ≡ true → marked marks (slotAt ss k .number) ≡ true
 
-record Passed (first next : ℕ) (ss : List Slot) (marks : List ℕ) (taken in-use befores i : ℕ) : Type 0 where
-  most : i ≤ 64
+record Passed (first next most : ℕ) (ss : List Slot) (marks : List ℕ) (taken in-use befores i : ℕ) : Type 0 where
+  within : i ≤ 64
   size : length marks ≡ 16
   rooms : taken ≡ gathered (roomed ss) i
   uses : in-use ≡ setBelow (used ss) i
   befores-all : befores ≡ gathered (follows ss) i
   marks-below : MarkedBelow ss i marks
-  tested : (k : ℕ) → k < i → Tested first next ss k
+  tested : (k : ℕ) → k < i → Tested first next most ss k
 
 abbrev Inv-loop : tie.InvT-loop
-Inv-loop first next slots marks₀ rooms₀ used₀ befores₀ i₀ marks rooms used befores i = Passed first next slots marks rooms used befores i
+Inv-loop first next slots most marks₀ rooms₀ used₀ befores₀ i₀ marks rooms used befores i = Passed first next most slots marks rooms used befores i
 
 abbrev μ-loop : tie.MeasureT-loop
-μ-loop first next slots marks₀ rooms₀ used₀ befores₀ i₀ marks rooms used befores i = 64 - i
+μ-loop first next slots most marks₀ rooms₀ used₀ befores₀ i₀ marks rooms used befores i = 64 - i
 
 -- where the function starts, seen from the head of the loop
 abbrev start : tie.At-loop Inv-loop μ-loop → tie.Start Inv-loop μ-loop
-start c = c .before .before .before
+start c = c .before .before .before .before
 
 -- the turn that asks whether its slot is in use, and its head
 abbrev turn : tie.After-is-used Inv-loop μ-loop → tie.In-loop Inv-loop μ-loop
@@ -70,9 +71,12 @@ returns c =
     (λ s. no-not {P = HeaderInRange _ _} (at .before .header-in-range .result) (at .before .header-in-range .ensures) (at .if1 .taken)
     (record { first-least = s .first-least; first-most = s .first-most; next-least = s .next-least; next-most = s .next-most }))
 
+rooms-requires : tie.Need-rooms-requires Inv-loop μ-loop
+rooms-requires c κs = search needs
+
 loop-holds : tie.Need-loop-holds Inv-loop μ-loop
 loop-holds c = record {
-  most = omega arith;
+  within = omega arith;
   size = search needs;
   rooms = gathered-none _;
   uses = sym (sets.below-none _);
@@ -100,10 +104,10 @@ loop-again : tie.Need-loop-again Inv-loop μ-loop
 loop-again c =
     let at = head (c .before) in
     let passed = at .loop .inv in
-    let ss = start at .args .t3 in
+    let ss = start at .args .t4 in
     let free = sym (c .before .is-used .ensures) ∙ not-true _ (c .if2 .taken) in
     record {
-      most = omega arith;
+      within = omega arith;
       size = passed .size;
       rooms = passed .rooms ∙ gathered-pass (roomed ss) (at .loop .i) (free-roomless ss (at .loop .i) free);
       uses = passed .uses ∙ sets.below-pass (used ss) (at .loop .i) free;
@@ -121,15 +125,15 @@ sound-alone-requires c κs = search needs
 
 -- past the first test the slot is in use
 in-use : (c : tie.Else2 Inv-loop μ-loop)
-    → let at = head (c .before) in used (start at .args .t3) (at .loop .i) ≡ true
+    → let at = head (c .before) in used (start at .args .t4) (at .loop .i) ≡ true
 in-use c = sym (c .before .is-used .ensures) ∙ not-false _ (c .if2 .left)
 
 -- a slot of a sound table passes every test
 passes : (c : tie.Else2 Inv-loop μ-loop)
     → let at = head (c .before) in
     let a = start at .args in
-    Sound (tableOf (a .first) (a .next) (a .t3)) → Tested (a .first) (a .next) (a .t3) (at .loop .i)
-passes c s = sound-tested s _ (turn (c .before) .loop-test .taken)
+    Sound (tableOf (a .setting) (a .first) (a .next) (a .t4)) → Tested (a .first) (a .next) (at .before .rooms .result) (a .t4) (at .loop .i)
+passes c s = sound-tested (head (c .before) .before .rooms .ensures) s _ (turn (c .before) .loop-test .taken)
 
 unsound-requires-2 : tie.Need-unsound-requires-2 Inv-loop μ-loop
 unsound-requires-2 c κs = search needs
@@ -139,7 +143,7 @@ returns-2 c =
     let test = c .before in
     let at = test .before .before in
     not-sound (c .unsound2 .ensures)
-    (λ s. no-not {P = Alone _ _ _ _} (test .before .sound-alone .result) (test .before .sound-alone .ensures) (test .if3 .taken)
+    (λ s. no-not {P = Alone _ _ _ _ _} (test .before .sound-alone .result) (test .before .sound-alone .ensures) (test .if3 .taken)
     (passes at s .alone (in-use at)))
 
 mark-requires : tie.Need-mark-requires Inv-loop μ-loop
@@ -176,18 +180,18 @@ returns-4 c =
     let at = picked (marks .before) in
     let loop = head (at .before) in
     let shared =
-    meets-shares (start loop .args .t3) (loop .loop .i) (loop .loop .inv .rooms)
+    meets-shares (start loop .args .t4) (loop .loop .i) (loop .loop .inv .rooms)
     (rooms .room-set .ensures) (yes-of (test .before .meets .result) (test .before .meets .ensures) (test .if6 .taken)) in
     not-sound (c .unsound4 .ensures) (λ s. passes at s .room (shared .0) (shared .1) (shared .2) (shared .3) (shared .4))
 
-joined-requires : tie.Need-joined-requires Inv-loop μ-loop
-joined-requires c κs = search needs
+either-requires : tie.Need-either-requires Inv-loop μ-loop
+either-requires c κs = search needs
 
 with-requires : tie.Need-with-requires Inv-loop μ-loop
 with-requires c κs = search needs
 
-joined-requires-2 : tie.Need-joined-requires-2 Inv-loop μ-loop
-joined-requires-2 c κs = search needs
+either-requires-2 : tie.Need-either-requires-2 Inv-loop μ-loop
+either-requires-2 c κs = search needs
 
 add-i-2 : tie.Need-add-i-2 Inv-loop μ-loop
 add-i-2 c = search needs
@@ -197,7 +201,7 @@ loop-less-2 c = search needs
 
 -- past the search no slot below has the number
 apart : (c : tie.Joined4 Inv-loop μ-loop)
-    → let at = head (picked (c .before .before) .before) in NumberApart (start at .args .t3) (at .loop .i)
+    → let at = head (picked (c .before .before) .before) in NumberApart (start at .args .t4) (at .loop .i)
 apart c =
     let at = head (picked (c .before .before) .before) in
     ⊎-elim
@@ -207,32 +211,32 @@ apart c =
 
 loop-again-2 : tie.Need-loop-again-2 Inv-loop μ-loop
 loop-again-2 c =
-    let joined = c .before .before in
-    let free = joined .before in
+    let joint = c .before .before in
+    let free = joint .before in
     let rooms = free .before .before in
     let number = rooms .before in
     let marks = number .before in
     let alone = marks .before .before in
     let kept = picked (marks .before) in
     let at = head (kept .before) in
-    let ss = start at .args .t3 in
+    let ss = start at .args .t4 in
     let passed = at .loop .inv in
     let u = in-use kept in
-    let sound = yes-not {P = Alone _ _ _ _} (alone .before .sound-alone .result) (alone .before .sound-alone .ensures) (alone .if3 .left) in
+    let sound = yes-not {P = Alone _ _ _ _ _} (alone .before .sound-alone .result) (alone .before .sound-alone .ensures) (alone .if3 .left) in
     record {
-      most = omega arith;
+      within = omega arith;
       size = marks .mark .ensures .size ∙ passed .size;
-      rooms = joined .joined .ensures ∙ rooms-more ss (at .loop .i) (passed .rooms) (rooms .room-set .ensures);
+      rooms = joint .either .ensures ∙ rooms-more ss (at .loop .i) (passed .rooms) (rooms .room-set .ensures);
       uses = c .before .with .ensures ∙ sets.with-below (used ss) (at .loop .i) _ (passed .uses) (turn (kept .before) .loop-test .taken) u;
-      befores-all = c .joined2 .ensures ∙ gathered-more (follows ss) (passed .befores-all) _ (λ r l. rw u);
+      befores-all = c .either2 .ensures ∙ gathered-more (follows ss) (passed .befores-all) _ (λ r l. rw u);
       marks-below = below-more _ _ (λ k l v. marks .mark .ensures .kept _ (passed .marks-below k l v)) (λ v. marks .mark .ensures .is);
       tested = below-more _ _ (passed .tested) (record {
         alone = λ v. sound;
         number = λ v. apart number;
         room = λ j r b e f.
-            let most : r < 16 = subst (λ (q : ℕ). q < 16) (room-is (slotAt ss (at .loop .i) .state) r e) (sound .room-most) in
+            let most = subst (λ (q : ℕ). q < at .before .rooms .result) (room-is (slotAt ss (at .loop .i) .state) r e) (sound .room-most) in
             no-of (free .before .meets .result) (free .before .meets .ensures) (free .if6 .left)
-            (shares-meets ss (at .loop .i) (passed .rooms) (rooms .room-set .ensures) j r b (omega arith) e f);
+            (shares-meets ss (at .loop .i) (passed .rooms) (rooms .room-set .ensures) j r b (omega (arith, most, at .before .rooms .ensures, rooms-most (start at .args .setting))) e f);
       });
     }
 
@@ -246,12 +250,12 @@ unsound-requires-5 c κs = search needs
 all-passed : (c : tie.After-within Inv-loop μ-loop)
     → let at = c .before .before in
     let a = start at .args in
-    Passed (a .first) (a .next) (a .t3) (at .loop .marks) (at .loop .rooms) (at .loop .used) (at .loop .befores) 64
+    Passed (a .first) (a .next) (at .before .rooms .result) (a .t4) (at .loop .marks) (at .loop .taken) (at .loop .used) (at .loop .befores) 64
 all-passed c =
     let at = c .before .before in
     let a = start at .args in
     let all : at .loop .i ≡ 64 = omega arith in
-    subst (Passed (a .first) (a .next) (a .t3) (at .loop .marks) (at .loop .rooms) (at .loop .used) (at .loop .befores)) all (at .loop .inv)
+    subst (Passed (a .first) (a .next) (at .before .rooms .result) (a .t4) (at .loop .marks) (at .loop .taken) (at .loop .used) (at .loop .befores)) all (at .loop .inv)
 
 returns-5 : tie.Need-returns-5 Inv-loop μ-loop
 returns-5 c =
@@ -259,17 +263,17 @@ returns-5 c =
     let at = test .before in
     let passed = all-passed at in
     not-sound (c .unsound5 .ensures)
-    (λ s. clash (sound-within (passed .befores-all) (passed .uses) s) (sym (at .within .ensures) ∙ not-true _ (test .if7 .taken)))
+    (λ s. clash (sound-within (at .before .before .before .rooms .ensures) (passed .befores-all) (passed .uses) s) (sym (at .within .ensures) ∙ not-true _ (test .if7 .taken)))
 
 returns-6 : tie.Need-returns-6 Inv-loop μ-loop
 returns-6 c =
     let at = c .before in
     let walked = at .before .before in
-    let begun = walked .before in
+    let begun = walked .before .before in
     let passed = all-passed at in
     let header = yes-not {P = HeaderInRange _ _} (begun .before .header-in-range .result) (begun .before .header-in-range .ensures) (begun .if1 .left) in
     record {
-      decides = tested-sound (passed .befores-all) (passed .uses) header (passed .tested) (sym (at .within .ensures) ∙ not-false _ (c .if7 .left));
+      decides = tested-sound (walked .before .rooms .ensures) (passed .befores-all) (passed .uses) header (passed .tested) (sym (at .within .ensures) ∙ not-false _ (c .if7 .left));
       used-slots = passed .uses;
       taken-rooms = passed .rooms;
     }
@@ -283,6 +287,7 @@ judge-spec =
     header-in-range-requires
     unsound-requires
     returns
+    rooms-requires
     loop-holds
     mul-s
     array-copy-out-s
@@ -301,9 +306,9 @@ judge-spec =
     meets-requires
     unsound-requires-4
     returns-4
-    joined-requires
+    either-requires
     with-requires
-    joined-requires-2
+    either-requires-2
     add-i-2
     loop-less-2
     loop-again-2

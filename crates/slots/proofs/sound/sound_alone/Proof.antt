@@ -21,6 +21,9 @@ returns-2 c = λ a. a .befores-other (sym (c .before .has .ensures) ∙ c .if2 .
 room-of-requires : tie.Need-room-of-requires
 room-of-requires c κs = search needs
 
+cast-if3 : tie.Need-cast-if3
+cast-if3 c = search needs
+
 returns-3 : tie.Need-returns-3
 returns-3 c = λ a. omega (arith, c .if3 .taken, c .before .room-of .ensures, a .room-most)
 
@@ -35,4 +38,4 @@ returns-4 c =
     }
 
 pub sound-alone-spec : {M : Type 1} → statement M
-sound-alone-spec = tie.close (tie.spec in-range-requires returns has-requires returns-2 room-of-requires returns-3 returns-4)
+sound-alone-spec = tie.close (tie.spec in-range-requires returns has-requires returns-2 room-of-requires cast-if3 returns-3 returns-4)

@@ -1,4 +1,5 @@
--- `Table::create_refusal` meets its contract: the refusals 1 to 8, in their order. Assumes nothing.
+-- `Table::create_refusal` meets its contract: the refusals 1 to 7, in their order. Assumes nothing.
+use mathlib.Core.Path.{sym, _∙_}
 use mathlib.Core.Logic.{inl, inr}
 use native.Mathlib.Omega.{arith}
 use borrow.Author.Needs.{needs}
@@ -9,13 +10,13 @@ use Rattle.rules.specs.Create.{Change}
 use Rattle.rules.specs.Create.{changeOf}
 use Rattle.cache.specs.Seen.{seen}
 use Rattle.cache.proofs.Accepted.{CreateSized, create-wrong-size, create-unsound, create-no-block, create-wrong-length, create-past-end}
-use Rattle.cache.proofs.Accepted.{Past5, create-many-named, create-unissued, create-no-number, create-ready}
+use Rattle.cache.proofs.Accepted.{Past5, create-many-named, create-unissued, create-ready}
 use Rattle.cache.proofs.types.Table.create_refusal.Statement.{statement}
 use Rattle.cache.proofs.types.Table.create_refusal.Tie as tie
 
 -- The places: where the call starts, where the sizes have been found right, and where the block has been found to be one.
-abbrev start : tie.Else1 → tie.Start
-start c = c .before .before .before .before .before
+abbrev start : tie.Else2 → tie.Start
+start c = c .before .before .before .before .before .before .before
 
 abbrev at-sized : tie.Else4 → tie.Else2
 at-sized c = c .before .before
@@ -30,20 +31,23 @@ change s = changeOf (s .args .block) (s .args .offset) (now (s .args .bytes)) (n
 returns : tie.Need-returns
 returns c = create-wrong-size _ _ _ _ (inl (c .if1 .taken))
 
+undo-bytes-requires : tie.Need-undo-bytes-requires
+undo-bytes-requires c κs = search needs
+
 returns-2 : tie.Need-returns-2
-returns-2 c = create-wrong-size _ _ _ _ (inr (c .if2 .taken))
+returns-2 c = create-wrong-size _ _ _ _ (inr (λ e. c .if2 .taken (e ∙ sym (c .before .undo-bytes .ensures))))
 
 -- where the sizes have been found right
-sized-here : (c : tie.Else2) → let s = start (c .before) in CreateSized (seen (s .args .self)) (now (s .args .image)) (now (s .args .undo)) (change s)
-sized-here c = record { image-whole = c .before .if1 .left; undo-whole = c .if2 .left }
+sized-here : (c : tie.Else2) → let s = start c in CreateSized (seen (s .args .self)) (now (s .args .image)) (now (s .args .undo)) (change s)
+sized-here c = record { image-whole = c .before .before .if1 .left; undo-whole = c .if2 .left ∙ c .before .undo-bytes .ensures }
 
 returns-3 : tie.Need-returns-3
 returns-3 c =
-    let s = start (c .before .before) in create-unsound _ _ _ _ (sized-here (c .before)) (no-not (s .args .sound) (s .pre) (c .if3 .taken))
+    let s = start (c .before) in create-unsound _ _ _ _ (sized-here (c .before)) (no-not (s .args .sound) (s .pre) (c .if3 .taken))
 
 -- where the table has been found sound
-sound-here : (c : tie.Else3) → Sound (seen (start (c .before .before) .args .self))
-sound-here c = let s = start (c .before .before) in yes-not (s .args .sound) (s .pre) (c .if3 .left)
+sound-here : (c : tie.Else3) → Sound (seen (start (c .before) .args .self))
+sound-here c = let s = start (c .before) in yes-not (s .args .sound) (s .pre) (c .if3 .left)
 
 returns-4 : tie.Need-returns-4
 returns-4 c = let e = c .before in create-no-block _ _ _ _ (sized-here (e .before)) (sound-here e) (c .if4 .taken)
@@ -70,7 +74,7 @@ returns-7 c =
 
 -- where none of 1 to 5 holds
 past-here : (c : tie.Else7)
-    → let s = start (at-sized (at-block (c .before)) .before) in Past5 (seen (s .args .self)) (now (s .args .image)) (now (s .args .undo)) (change s)
+    → let s = start (at-sized (at-block (c .before))) in Past5 (seen (s .args .self)) (now (s .args .image)) (now (s .args .undo)) (change s)
 past-here c =
     let l = c .before in
     let b = at-block l in
@@ -96,23 +100,15 @@ returns-9 c =
 
 returns-10 : tie.Need-returns-10
 returns-10 c =
-    let e9 = c .before .before in
-    let e8 = e9 .before .before in
-    create-no-number _ _ _ _ (past-here (e8 .before)) (e8 .if8 .left) (no-of (e9 .before .unissued .result) (e9 .before .unissued .ensures) (e9 .if9 .left))
-    (c .if10 .taken)
-
-returns-11 : tie.Need-returns-11
-returns-11 c =
-    let e9 = c .before .before in
-    let e8 = e9 .before .before in
-    create-ready _ _ _ _ (past-here (e8 .before)) (e8 .if8 .left) (no-of (e9 .before .unissued .result) (e9 .before .unissued .ensures) (e9 .if9 .left))
-    (c .if10 .left)
+    let e8 = c .before .before in
+    create-ready _ _ _ _ (past-here (e8 .before)) (e8 .if8 .left) (no-of (c .before .unissued .result) (c .before .unissued .ensures) (c .if9 .left))
 
 pub create-refusal-spec : {M : Type 1} → statement M
 create-refusal-spec =
     tie.close
     (tie.spec
     returns
+    undo-bytes-requires
     returns-2
     returns-3
     returns-4
@@ -123,5 +119,4 @@ create-refusal-spec =
     returns-8
     unissued-requires
     returns-9
-    returns-10
-    returns-11)
+    returns-10)

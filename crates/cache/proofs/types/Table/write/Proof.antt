@@ -94,7 +94,7 @@ returns-3 c =
     (seen (c .with-slots .result)) (h .hand-out .last .0)
     (c .with-slots .ensures ∙ ap (λ (ss : List Slot). withSlots ss (seen (a .self))) (c .before .sent .ensures))
     (h .hand-out .ensures
-    ∙ handed-out (a .self .first) (a .self .next) (a .block) set (a .self .slots) (now (a .image)) (now (a .undo)) (now (a .handed))
+    ∙ handed-out (a .self .setting) (a .self .first) (a .self .next) (a .block) set (a .self .slots) (now (a .image)) (now (a .undo)) (now (a .handed))
     (r .sound) (r .is-block) (r .image-whole) (r .block-whole) (on-here e .waiting))
 
 pub write-spec : {M : Type 1} → statement M

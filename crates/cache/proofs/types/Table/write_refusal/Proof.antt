@@ -1,6 +1,6 @@
 -- `Table::write_refusal` meets its contract: the refusals 1 to 12, in their order. Assumes nothing.
 use mathlib.Core.Logic.{inl, inr}
-use mathlib.Core.Path.{refl}
+use mathlib.Core.Path.{refl, sym, _∙_}
 use native.Mathlib.Omega.{arith}
 use borrow.Author.Needs.{needs}
 use denote.Ref.{now}
@@ -15,7 +15,7 @@ use Rattle.cache.proofs.types.Table.write_refusal.Tie as tie
 
 -- The places: where the call starts, and where the sizes have been found right.
 abbrev start : tie.Else3 → tie.Start
-start c = c .before .before .before .before .before .before
+start c = c .before .before .before .before .before .before .before
 
 abbrev at-sized : tie.After-is-sound → tie.Else3
 at-sized c = c .before .before
@@ -23,8 +23,11 @@ at-sized c = c .before .before
 returns : tie.Need-returns
 returns c = write-wrong-size _ _ _ _ _ (inl (c .if1 .taken))
 
+undo-bytes-requires : tie.Need-undo-bytes-requires
+undo-bytes-requires c κs = search needs
+
 returns-2 : tie.Need-returns-2
-returns-2 c = write-wrong-size _ _ _ _ _ (inr (inl (c .if2 .taken)))
+returns-2 c = write-wrong-size _ _ _ _ _ (inr (inl (λ e. c .if2 .taken (e ∙ sym (c .before .undo-bytes .ensures)))))
 
 returns-3 : tie.Need-returns-3
 returns-3 c = write-wrong-size _ _ _ _ _ (inr (inr (c .if3 .taken)))
@@ -35,7 +38,9 @@ is-sound-requires c κs = search needs
 sized-here : (c : tie.After-is-sound)
     → let a = start (at-sized c) .args in WriteSized (seen (a .self)) (now (a .image)) (now (a .undo)) (now (a .handed)) (a .block)
 sized-here c =
-    let e = at-sized c in record { image-whole = e .before .before .if1 .left; undo-whole = e .before .if2 .left; block-whole = e .if3 .left }
+    let e = at-sized c in
+    let u = e .before in
+    record { image-whole = u .before .before .if1 .left; undo-whole = u .if2 .left ∙ u .before .undo-bytes .ensures; block-whole = e .if3 .left }
 
 returns-4 : tie.Need-returns-4
 returns-4 c =
@@ -87,6 +92,7 @@ write-refusal-spec =
     tie.close
     (tie.spec
     returns
+    undo-bytes-requires
     returns-2
     returns-3
     is-sound-requires

@@ -1,10 +1,10 @@
--- `accept::hold::holds_back` meets its contract: each answer is what the tests before it leave of one slot. Assumes nothing.
+-- `accept::entry::holds_back` meets its contract: each answer is what the tests before it leave of one slot. Assumes nothing.
 use mathlib.Core.Path.{sym, _∙_}
 use borrow.Author.Tests.{not-true, not-false}
 use Rattle.ground.proofs.Decided.{clash, decides, yes-of, no-of}
 use borrow.Author.Needs.{needs}
-use Rattle.accept.proofs.hold.holds_back.Statement.{statement}
-use Rattle.accept.proofs.hold.holds_back.Tie as tie
+use Rattle.accept.proofs.entry.holds_back.Statement.{statement}
+use Rattle.accept.proofs.entry.holds_back.Tie as tie
 
 -- where the slot is known to be in use, seen from where it is known to be of another block
 abbrev picked : tie.Else2 → tie.Else1
