@@ -13,19 +13,12 @@ use Rattle.rules.specs.Sizes.{slots}
 use Rattle.rules.specs.Settings.{rooms}
 use Rattle.rules.specs.Slots.{hasRoom}
 use Rattle.rules.specs.Table.{slotAt}
-use Rattle.rules.specs.Create.{WouldBeHard, HoldOf, FreeRoom, Joins, LowestNumbered}
+use Rattle.rules.specs.Create.{HoldOf, FreeRoom}
 use Rattle.rules.proofs.Rooms.{rooms-most}
 use Rattle.slots.specs.Walks.{takenRooms}
 use Rattle.accept.specs.declared.types.Entry.{Entry}
-use Rattle.accept.specs.declared.types.Entry.the-variants as entry
 use Rattle.masks.specs.Lowest.{Outside}
-use Rattle.accept.specs.Asked.{Enters}
-
--- the paper's word for each case of the answer
-abbrev pub Means : Setting → List Slot → ℕ → Entry → Type 0
-Means g ss b (entry.Joins j) = Joins g ss b × LowestNumbered ss b j
-Means g ss b (entry.Own h) = (Joins g ss b → ⊥) × HoldOf g ss b h
-Means g ss b entry.Full = (WouldBeHard g ss b → ⊥) × ((r : ℕ) → r < rooms g → FreeRoom ss r → ⊥)
+use Rattle.accept.specs.Asked.{Enters, Means}
 
 module _ (g : Setting) (ss : List Slot) {taken : ℕ} (is-taken : taken ≡ takenRooms ss) where
   taken-at : (r : ℕ) → r < rooms g → has taken r ≡ someBelow (λ i. hasRoom (slotAt ss i .state) r) slots
@@ -50,4 +43,4 @@ module _ (g : Setting) (ss : List Slot) {taken : ℕ} (is-taken : taken ≡ take
       least = λ i l f. low .least i l (free-outside i (omega (arith, l, low .within)) f);
     }),
   )
-  enters-means (Enters.full n none) = (n, λ r l f. none r l (free-outside r l f))
+  enters-means (Enters.full n none) = (λ j. n (j .would-be-hard), (n, λ r l f. none r l (free-outside r l f)))

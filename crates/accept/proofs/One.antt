@@ -11,6 +11,7 @@ use Rattle.rules.specs.declared.Slot.{Slot}
 use Rattle.masks.proofs.Lowest.{lowest-one}
 use Rattle.accept.specs.declared.types.Entry.{Entry}
 use Rattle.accept.specs.declared.types.Entry.the-variants as entry
+use Rattle.accept.specs.declared.types.Holding.the-variants as holding
 use Rattle.accept.specs.Asked.{FirstNumbered, Enters}
 
 -- of two that are the first with the lowest number neither is below the other
@@ -39,7 +40,7 @@ enters-one (Enters.hard w n) (Enters.soft m r) = absurd (m w)
 enters-one (Enters.hard w n) (Enters.full m r) = absurd (m w)
 enters-one (Enters.soft n r) (Enters.joins j p) = absurd (n (j .would-be-hard))
 enters-one (Enters.soft n r) (Enters.hard w m) = absurd (n w)
-enters-one (Enters.soft n r) (Enters.soft m s) = ap (λ (x : ℕ). entry.Own (hold.Soft x)) (lowest-one r s)
+enters-one (Enters.soft n r) (Enters.soft m s) = ap (λ (x : ℕ). entry.Own (holding.Of (hold.Soft x))) (lowest-one r s)
 enters-one (Enters.soft n r) (Enters.full m s) = absurd (s _ (r .within) (r .holds))
 enters-one (Enters.full n r) (Enters.joins j p) = absurd (n (j .would-be-hard))
 enters-one (Enters.full n r) (Enters.hard w m) = absurd (n w)

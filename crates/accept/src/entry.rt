@@ -8,6 +8,7 @@ ghost use Rattle.rules.specs.Create.{WouldBeHard};
 ghost use Rattle.accept.specs.Asked.{Enters};
 ghost use Rattle.accept.specs.OneSlot.{HoldsBack, LowestNumberedOr};
 use crate::types::Entry;
+use crate::types::Holding;
 use rules::Hold;
 use rules::Setting;
 use rules::Slot;
@@ -78,19 +79,20 @@ pub fn entry_for(setting: Setting, slots: [Slot; SLOTS], block: u32, taken: u64)
     let on = patches_on(slots, block);
     if would_be_hard(setting, slots, block, on.waiting) {
         if !joins(setting) {
-            return Entry::Own(Hold::Hard);
+            return Entry::Own(Holding::Of(Hold::Hard));
         }
         let j = lowest_numbered(slots, on.waiting);
         if j < SLOTS {
             return Entry::Joins(j);
         }
-        return Entry::Own(Hold::Hard);
+        return Entry::Own(Holding::Of(Hold::Hard));
     }
     let n = rooms(setting);
     let r = masks::lowest_outside(taken, n);
     if r < n {
-        Entry::Own(Hold::Soft(r as u32))
+        let room = r as u32;
+        Entry::Own(Holding::Of(Hold::Soft(room)))
     } else {
-        Entry::Full
+        Entry::Own(Holding::Full)
     }
 }

@@ -2,10 +2,14 @@
 // promises can name it.
 use rules::Hold;
 
-// The slot whose patch the change joins; or an entry of its own, hard or soft with its room; or it would
-// be soft, and no room is free.
+// Hard, or soft with its room; or it would be soft, and no room is free.
+pub enum Holding {
+    Of(Hold),
+    Full,
+}
+
+// The slot whose patch the change joins; or an entry of its own.
 pub enum Entry {
     Joins(usize),
-    Own(Hold),
-    Full,
+    Own(Holding),
 }

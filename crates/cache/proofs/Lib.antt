@@ -2,4 +2,3 @@
 pub mod Looks
 pub mod Sent
 pub mod Accepted
-pub mod FreeSlots

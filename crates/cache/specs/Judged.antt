@@ -10,10 +10,12 @@ use Rattle.rules.specs.declared.Slot.{Slot}
 use Rattle.masks.specs.Sets.{setOf}
 use Rattle.rules.specs.Sizes.{roomStart}
 use Rattle.rules.specs.Table.{Table, used, withSlots, withNext}
-use Rattle.rules.specs.Create.{Change, HoldOf, acceptedSlots}
-use Rattle.rules.specs.Refusals.{Case, First, TakesSlot, NoRoom, createCases, writeCases}
-use Rattle.rules.specs.Calls.{Creates, createJoined}
+use Rattle.rules.specs.Create.{Change, acceptedSlots}
+use Rattle.rules.specs.Refusals.{Case, First, TakesSlot, createCases, writeCases}
+use Rattle.rules.specs.Calls.{createJoined}
 use Rattle.rules.specs.Passed.{CreateReady, WriteReady}
+use Rattle.accept.specs.declared.types.Holding.{Holding}
+use Rattle.accept.specs.Asked.{HeldAs}
 use Rattle.cache.specs.declared.types.Created.{Created}
 use Rattle.cache.specs.Seen.{creation}
 
@@ -26,25 +28,16 @@ pub record Judged (cases : List Case) (Ready : Type 0) (k : ℕ) : Type 0 where
 abbrev pub CreateJudged : Table → List ℕ → List ℕ → Change → ℕ → Type 0
 CreateJudged t image undo c = Judged (createCases t image undo c) (CreateReady t image undo c)
 
--- none of 1 to 7 holds of a create, and it takes a slot; `in-use` are the slots in use
-pub record Taking (t : Table) (image undo : List ℕ) (c : Change) (in-use : ℕ) : Type 0 where
+-- none of 1 to 7 holds of a create, and it takes a slot, hard or soft as h says; `in-use` are the slots in use
+pub record Taking (t : Table) (image undo : List ℕ) (c : Change) (in-use : ℕ) (h : Holding) : Type 0 where
   pub ready : CreateReady t image undo c
   pub own : TakesSlot t c
   pub is-used : in-use ≡ setOf (used (t .slots))
-
--- and hard, or soft with its room, is known besides
-pub record TakingAs (t : Table) (image undo : List ℕ) (c : Change) (in-use : ℕ) (h : Hold) : Type 0 where
-  pub taking : Taking t image undo c in-use
-  pub held : HoldOf (t .setting) (t .slots) (c .block) h
+  pub held : HeldAs (t .setting) (t .slots) (c .block) h
 
 -- r and the image afterwards are what comes of a change that joins the patch of slot j, whatever the undo area holds
 abbrev pub Joined : Table → List ℕ → Change → ℕ → Created → List ℕ → Type 0
 Joined t image c j r image′ = (undo : List ℕ) → creation r image′ undo ≡ createJoined t image undo c j
-
--- r is the answer to a creation that finds no room, whichever it is
-abbrev pub WithoutRoom : Table → ℕ → Created → Type 0
-WithoutRoom t in-use r =
-    (image undo : List ℕ) (c : Change) → Taking t image undo c in-use → NoRoom t c → Creates t image undo c (creation r image undo)
 
 -- the refusals 1 to 12 of a write are judged
 abbrev pub WriteJudged : Table → List ℕ → List ℕ → List ℕ → ℕ → ℕ → Type 0

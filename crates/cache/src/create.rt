@@ -10,7 +10,7 @@ ghost use Rattle.rules.specs.Table.{Sound};
 ghost use Rattle.rules.specs.Create.{changeOf, patch};
 ghost use Rattle.rules.specs.Calls.{Creates};
 ghost use Rattle.cache.specs.Seen.{seen, creation};
-ghost use Rattle.cache.specs.Judged.{CreateJudged, Joined, TakingAs, WithoutRoom, keptAt, withPatch};
+ghost use Rattle.cache.specs.Judged.{CreateJudged, Joined, Taking, keptAt, withPatch};
 use crate::types::Created;
 use crate::types::Table;
 use accept::accepted::accepted;
@@ -20,6 +20,7 @@ use accept::befores::befores;
 use accept::entry::entry_for;
 use accept::named::unissued;
 use accept::types::Entry;
+use accept::types::Holding;
 use rules::CreateAnswer;
 use rules::Hold;
 use rules::Slot;
@@ -169,8 +170,8 @@ impl Table {
         }
     }
 
-    // The change takes a slot outside the set `used`, hard or soft as it is: 8 and 9 are judged, then the
-    // patch is made.
+    // The change takes a slot outside the set `used`, hard or soft as it is: 8, 9 and 10 are judged, then
+    // the patch is made.
     fn take(
         self,
         image: &mut [u8],
@@ -180,9 +181,9 @@ impl Table {
         bytes: &[u8],
         named: &[u32],
         used: u64,
-        hold: Hold,
+        holding: Holding,
     ) -> Created
-        requires { ⌜ TakingAs (seen self) (now image) (now undo) (changeOf block offset (now bytes) (now named)) used hold ⌝ }
+        requires { ⌜ Taking (seen self) (now image) (now undo) (changeOf block offset (now bytes) (now named)) used holding ⌝ }
         ensures { λ r. ⌜ Creates (seen self) (now (image .entry)) (now (undo .entry))
             (changeOf block offset (now (bytes .entry)) (now (named .entry)))
             (creation r (now (image .exit)) (now (undo .exit))) ⌝ }
@@ -200,6 +201,12 @@ impl Table {
                 answer: CreateAnswer::Refused(NO_SLOT),
             };
         }
+        let Holding::Of(hold) = holding else {
+            return Created {
+                table: self,
+                answer: CreateAnswer::Refused(NO_ROOM),
+            };
+        };
         let patch = self.patch(block, offset, bytes, named, hold);
         let at = place(block, offset);
         keep(undo, image, hold, at, bytes.len());
@@ -207,28 +214,6 @@ impl Table {
         Created {
             table: self.with_patch(patch, j, hold),
             answer: CreateAnswer::Granted(self.next, hold),
-        }
-    }
-
-    // No room is free: 8 and 9 come before 10.
-    fn without_room(self, used: u64) -> Created
-        ensures { λ r. ⌜ WithoutRoom (seen self) used r ⌝ }
-    {
-        if self.next == LAST_NEXT {
-            return Created {
-                table: self,
-                answer: CreateAnswer::Refused(NO_NUMBER),
-            };
-        }
-        if LAST_SLOT < masks::lowest_outside(used, SLOTS) {
-            return Created {
-                table: self,
-                answer: CreateAnswer::Refused(NO_SLOT),
-            };
-        }
-        Created {
-            table: self,
-            answer: CreateAnswer::Refused(NO_ROOM),
         }
     }
 
@@ -256,19 +241,10 @@ impl Table {
             };
         }
         let entry = entry_for(setting, slots, block, verdict.rooms);
+        let used = verdict.used;
         match entry {
             Entry::Joins(j) => self.join(image, block, offset, bytes, named, j),
-            Entry::Own(hold) => self.take(
-                image,
-                undo,
-                block,
-                offset,
-                bytes,
-                named,
-                verdict.used,
-                hold,
-            ),
-            Entry::Full => self.without_room(verdict.used),
+            Entry::Own(h) => self.take(image, undo, block, offset, bytes, named, used, h),
         }
     }
 }

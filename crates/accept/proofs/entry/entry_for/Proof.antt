@@ -71,8 +71,8 @@ rooms-requires c κs = search needs
 lowest-outside-requires : tie.Need-lowest-outside-requires
 lowest-outside-requires c κs = search needs
 
-cast-t16 : tie.Need-cast-t16
-cast-t16 c =
+cast-room : tie.Need-cast-room
+cast-room c =
     let e = c .before .before in
     record { fits = omega (arith, c .if4 .taken, e .rooms .ensures, rooms-most (start (e .before .before) .args .setting)) }
 
@@ -107,6 +107,6 @@ entry-for-spec =
     returns-3
     rooms-requires
     lowest-outside-requires
-    cast-t16
+    cast-room
     returns-4
     returns-5)

@@ -1,4 +1,4 @@
--- `Table::create` meets its contract: what is judged early, then what becomes of the change: it joins, takes a slot or finds no room. Assumes nothing.
+-- `Table::create` meets its contract: what is judged early, then what becomes of the change: it joins, or takes a slot. Assumes nothing.
 use Prim.Native.Nat.{ℕ}
 use mathlib.Core.Path.{_≡_, sym, subst}
 use mathlib.Core.Bool.{Bool, true, cond}
@@ -9,13 +9,12 @@ use Rattle.ground.proofs.Decided.{said-yes}
 use Rattle.rules.specs.Table.{used}
 use Rattle.rules.specs.Create.{Change, changeOf}
 use Rattle.rules.specs.Calls.{Creates}
-use Rattle.rules.specs.Refusals.{TakesSlot}
 use Rattle.rules.specs.Passed.{CreateReady}
 use Rattle.slots.specs.Walks.{takenRooms}
 use Rattle.accept.specs.declared.types.Entry.the-variants as entry
-use Rattle.accept.proofs.FreeRooms.{Means, enters-means}
+use Rattle.accept.specs.Asked.{Means}
+use Rattle.accept.proofs.FreeRooms.{enters-means}
 use Rattle.cache.specs.Seen.{seen}
-use Rattle.cache.specs.Judged.{Taking}
 use Rattle.cache.proofs.Accepted.{create-refused, create-joined}
 use Rattle.cache.proofs.types.Table.create.Statement.{statement}
 use Rattle.cache.proofs.types.Table.create.Tie as tie
@@ -97,7 +96,7 @@ join-requires c κs = joins-here (joining c) .1 .is-slot
 enum-known-entry-2 : tie.Need-enum-known-entry-2
 enum-known-entry-2 c = search needs
 
--- hard, or soft with its room
+-- a change that does not join takes a slot, hard, soft with its room, or without one
 own-here : (c : tie.After-entry2)
     → let a = start (c .before .before .before .before) .args in
     Means (a .self .setting) (a .self .slots) (a .block) (entry.Own (c .entry2 .given .0 .0))
@@ -105,24 +104,12 @@ own-here c =
     let a = start (c .before .before .before .before) .args in
     subst (Means (a .self .setting) (a .self .slots) (a .block)) (c .entry2 .given .1) (means-here (c .before .before))
 
--- a change that does not join takes a slot
-taking-here : (c : tie.Else1)
-    → let s = start (c .before) in
-    TakesSlot (seen (s .args .self)) (change s)
-    → Taking (seen (s .args .self)) (now (s .args .image)) (now (s .args .undo)) (change s) (at-judged (c .before) .judge .result .used)
-taking-here c own = record { ready = ready-here c; own = own; is-used = used-here c }
-
 take-requires : tie.Need-take-requires
 take-requires c κs =
     let e = taking c in
+    let r = e .before .before .before in
     let m = own-here e in
-    record { taking = taking-here (e .before .before .before) (m .0); held = m .1 }
-
-enum-told : tie.Need-enum-told
-enum-told c = search needs
-
-without-room-requires : tie.Need-without-room-requires
-without-room-requires c κs = search needs
+    record { ready = ready-here r; own = m .0; is-used = used-here r; held = m .1 }
 
 same-length-3 : tie.Need-same-length-3
 same-length-3 c = search needs
@@ -149,21 +136,6 @@ same-length-6 c = search needs
 returns-3 : tie.Need-returns-3
 returns-3 c = search needs
 
-same-length-7 : tie.Need-same-length-7
-same-length-7 c = search needs
-
-same-length-8 : tie.Need-same-length-8
-same-length-8 c = search needs
-
-returns-4 : tie.Need-returns-4
-returns-4 c =
-    let f = c .before in
-    let e = f .before .before in
-    let r = e .before in
-    let s = start (r .before) in
-    let m = subst (Means (s .args .self .setting) (s .args .self .slots) (s .args .block)) (f .enum-told .given .1) (means-here e) in
-    c .without-room .ensures (now (s .args .image)) (now (s .args .undo)) (change s) (taking-here r (λ j. m .0 (j .would-be-hard))) m
-
 pub create-spec : {M : Type 1} → statement M
 create-spec =
     tie.close
@@ -178,14 +150,9 @@ create-spec =
     join-requires
     enum-known-entry-2
     take-requires
-    enum-told
-    without-room-requires
     same-length-3
     same-length-4
     returns-2
     same-length-5
     same-length-6
-    returns-3
-    same-length-7
-    same-length-8
-    returns-4)
+    returns-3)
