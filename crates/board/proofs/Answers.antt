@@ -3,10 +3,12 @@ use Prim.Native.Nat.{ℕ, _<_}
 use mathlib.Core.Path.{_≡_, refl, sym, ap, ap₂, subst, _∙_}
 use mathlib.Core.List.{List}
 use mathlib.Core.Logic.{_⊎_}
-use mathlib.Core.Option.{some}
+use mathlib.Core.Option.{Option, none, some}
 use native.Mathlib.Omega.{arith}
 use borrow.Author.Tests.{ne-eqb}
 use lib.ListN.{length}
+use Rattle.rules.specs.declared.Setting.{Setting}
+use Rattle.rules.specs.declared.Setting.the-variants.{Board}
 use Rattle.rules.specs.declared.Answer.{Answer}
 use Rattle.rules.specs.declared.Answer.the-variants as plain
 use Rattle.rules.specs.declared.AskAnswer.{AskAnswer}
@@ -14,14 +16,17 @@ use Rattle.rules.specs.declared.CountAnswer.{CountAnswer}
 use Rattle.rules.specs.declared.CreateAnswer.{CreateAnswer}
 use Rattle.rules.specs.declared.CreateAnswer.the-variants as create
 use Rattle.rules.specs.declared.Hold.{Hold}
+use Rattle.rules.specs.declared.Hold.the-variants as hold
 use Rattle.rules.specs.declared.WriteAnswer.{WriteAnswer}
 use Rattle.rules.specs.declared.WriteAnswer.the-variants as write
+use Rattle.rules.specs.Settings.{rooms, undoBytes}
 use Rattle.rules.specs.Table.{Table}
 use Rattle.rules.specs.Create.{Change, HoldOf}
 use Rattle.rules.specs.Ask.{askWord}
 use Rattle.rules.specs.Refusals.{First, WrongSize}
-use Rattle.rules.specs.Calls.{plainNumber, Opening, Opens, createNumber, Creation, Accepts, Creates, writeNumber, Writing, Writes}
+use Rattle.rules.specs.Calls.{plainNumber, Opening, Opens, createNumber, hardOrSoft, Creation, Accepts, Creates, writeNumber, Writing, Writes}
 use Rattle.rules.specs.Calls.{Completion, Completes, askNumber, Asks, countNumber, counted, Counts}
+use Rattle.rules.proofs.Rooms.{rooms-most}
 use Rattle.board.specs.Layout.{tableBytes, IsTable, tableIn, bytesOf}
 use Rattle.board.specs.Calls.{tableAfter, noTableCases, OpenCall, holdNumber, CreateEnd, createEnd, createNone, CreateCall}
 use Rattle.board.specs.Calls.{WriteEnd, writeEnd, writeNone, WriteCall, CompleteCall, AskCall, CountCall}
@@ -31,7 +36,7 @@ use Rattle.board.specs.Calls.{WriteEnd, writeEnd, writeNone, WriteCall, 
 pub open-other : (table : List ℕ) (first : ℕ) → (length table ≡ tableBytes → ⊥) → OpenCall table first 2 table
 open-other table first n = record { sized = λ e. absurd (n e); other = λ d. (refl, refl) }
 
-pub open-here : {table after : List ℕ} {first : ℕ} (o : Opening) (a : Answer) → length table ≡ tableBytes → Opens first o → o .answer ≡ a
+pub open-here : {table after : List ℕ} {first : ℕ} (o : Opening) (a : Answer) → length table ≡ tableBytes → Opens Board first o → o .answer ≡ a
     → after ≡ bytesOf (o .table)
     → OpenCall table first (plainNumber a) after
 open-here o a e h p q = record { sized = λ d. (o, h, ap plainNumber (sym p), q); other = λ n. absurd (n e) }
@@ -89,25 +94,47 @@ module _ {table : List ℕ} {b : ℕ} {t : Table} (o : Completion) (i : IsTable 
 
 -- ---- create
 
+-- the undo area of the board
+board-undo : undoBytes Board ≡ 1024
+unfolding rooms
+board-undo = refl
+
 pub create-none : (table image undo : List ℕ) (c : Change) (k : ℕ) → (IsTable table → ⊥)
     → First (noTableCases table (WrongSize 16384 image ⊎ WrongSize 1024 undo)) k
     → CreateCall table image undo c (createNone table image undo k)
-create-none table image undo c k d f = record { is-table = λ i. absurd (d i); no-table = λ e. (f, refl) }
+create-none table image undo c k d f = record {
+  is-table = λ i. absurd (d i);
+  no-table = λ e. (subst (λ (n : ℕ). First (noTableCases table (WrongSize 16384 image ⊎ WrongSize n undo)) k) (sym board-undo) f, refl);
+}
 
--- a room is below 16, so its number fits
+-- hard or soft is one word, and no word is none
+said : {h : Hold} → _≡_ {A = Option Hold} none (some h) → ⊥
+said {h} e = word h (ap holdNumber e)
+  where
+    word : (h : Hold) → 0 ≡ holdNumber (some h) → ⊥
+    word hold.Hard n = omega arith
+    word (hold.Soft r) n = omega arith
+
+-- what is accepted is not refused
+not-refused : {t : Table} {image undo : List ℕ} {c : Change} {o : Creation} (k : ℕ) → Accepts t image undo c o → o .answer ≡ create.Refused k → ⊥
+not-refused k (Accepts.takes own g) p = said (sym (ap hardOrSoft p) ∙ g .says)
+not-refused k (Accepts.joins j g) p = said (sym (ap hardOrSoft p) ∙ g .says)
+
+-- a room is below what a set can have, so its number fits
 pub hold-fits : {t : Table} {image undo : List ℕ} {c : Change} {o : Creation} {n : ℕ} {h : Hold} → Creates t image undo c o → o .answer ≡ create.Granted n h
     → holdNumber (some h) < 4294967296
-hold-fits {t} {image} {undo} {c} {o} {n} {h} made p = by (g .hold) (g .hard-or-soft) same
+hold-fits {t} {image} {undo} {c} {o} {n} {h} made p = by (made .grant (ap createNumber p))
   where
-    g : Accepts t image undo c o
-    g = made .grant (ap createNumber p)
+    same : {x : Hold} → hardOrSoft (o .answer) ≡ some x → holdNumber (some x) < 4294967296 → holdNumber (some h) < 4294967296
+    same e l = subst (λ (y : Option Hold). holdNumber y < 4294967296) (sym e ∙ ap hardOrSoft p) l
 
-    same : g .hold ≡ h
-    same = let w = ap (λ (x : Creation). x .answer) (g .whole) in cc
+    below : {x : Hold} → HoldOf (t .setting) (t .slots) (c .block) x → holdNumber (some x) < 4294967296
+    below (HoldOf.hard w) = omega arith
+    below (HoldOf.soft w l) = omega (arith, l .within, rooms-most (t .setting))
 
-    by : (x : Hold) → HoldOf (t .slots) (c .block) x → x ≡ h → holdNumber (some h) < 4294967296
-    by x (HoldOf.hard w) e = subst (λ (y : Hold). holdNumber (some y) < 4294967296) e (omega arith)
-    by x (HoldOf.soft w l) e = subst (λ (y : Hold). holdNumber (some y) < 4294967296) e (omega (arith, l .within))
+    by : Accepts t image undo c o → holdNumber (some h) < 4294967296
+    by (Accepts.takes own g) = same (g .says) (below (g .hard-or-soft))
+    by (Accepts.joins j g) = same (g .says) (omega arith)
 
 module _ {table image undo : List ℕ} {c : Change} {t : Table} (o : Creation) (i : IsTable table) (e : t ≡ tableIn table) (h : Creates t image undo c o) where
   -- the creation, its answer written out
@@ -136,16 +163,20 @@ module _ {table image undo : List ℕ} {c : Change} {t : Table} (o : Creation) (
   create-refused-here k p = create-end (create.Refused k) p _ (rw (ne-eqb k 0 not-zero))
     where
       not-zero : k ≡ 0 → ⊥
-      not-zero z =
-          let w = ap (λ (x : Creation). x .answer) (h .grant (ap createNumber p ∙ z) .whole) in
-          let c : _≡_ {A = ℕ} 0 1 = cc in omega arith
+      not-zero z = not-refused k (h .grant (ap createNumber p ∙ z)) p
 
 -- ---- write
 
 pub write-none : (table image undo handed : List ℕ) (b k : ℕ) → (IsTable table → ⊥)
     → First (noTableCases table (WrongSize 16384 image ⊎ (WrongSize 1024 undo ⊎ WrongSize 256 handed))) k
     → WriteCall table image undo handed b (writeNone table image undo handed k)
-write-none table image undo handed b k d f = record { is-table = λ i. absurd (d i); no-table = λ e. (f, refl) }
+write-none table image undo handed b k d f = record {
+  is-table = λ i. absurd (d i);
+  no-table = λ e. (
+    subst (λ (n : ℕ). First (noTableCases table (WrongSize 16384 image ⊎ (WrongSize n undo ⊎ WrongSize 256 handed))) k) (sym board-undo) f,
+    refl,
+  );
+}
 
 module _ {table image undo handed : List ℕ} {b : ℕ} {t : Table} (o : Writing) (i : IsTable table) (e : t ≡ tableIn table)
     (h : Writes t image undo handed b o) where

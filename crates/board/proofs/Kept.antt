@@ -1,7 +1,7 @@
 -- WHAT IS KEPT OVER SLEEP IS THE TABLE: the bytes that a granted call leaves are a table, and mean the very next table of document 01.
 -- Assumed: what was read are bytes, as memory has them.
 use Prim.Native.Nat.{ℕ, zero, suc, _+_, _/_, _^_, _<_}
-use mathlib.Core.Path.{_≡_, sym, subst}
+use mathlib.Core.Path.{_≡_, refl, sym, subst}
 use mathlib.Core.Bool.{Bool, true, false, cond}
 use mathlib.Core.List.{List, [], _∷_, _++_}
 use mathlib.Core.Logic.{inr}
@@ -11,6 +11,8 @@ use lib.Dec.{eqb}
 use lib.ListN.{getD}
 use Rattle.masks.specs.Sets.{has}
 use Rattle.masks.proofs.Laws.{set-lt}
+use Rattle.rules.specs.declared.Setting.{Setting}
+use Rattle.rules.specs.declared.Setting.the-variants.{Board}
 use Rattle.rules.specs.declared.Hold.{Hold}
 use Rattle.rules.specs.declared.Hold.the-variants as hold
 use Rattle.rules.specs.declared.Kind.the-variants as kind
@@ -19,17 +21,20 @@ use Rattle.rules.specs.declared.State.the-variants as state
 use Rattle.rules.specs.declared.Slot.{Slot}
 use Rattle.rules.specs.Sizes.{slots, lastNumber}
 use Rattle.rules.specs.Slots.{isUsed, roomOf, freeSlot, withState}
-use Rattle.rules.specs.Table.{Table, slotAt, slotsBy}
+use Rattle.rules.specs.Table.{Table, tableOf, slotAt, slotsBy}
 use Rattle.rules.specs.Open.{opened}
 use Rattle.rules.specs.Create.{Change, befores, HoldOf, turnedState, turned, patch, acceptedSlots, accepted}
+use Rattle.rules.specs.Create.{added, withMore, joinedSlots, joined}
 use Rattle.rules.specs.Write.{sentState, sentSlot, sentSlots, sent}
 use Rattle.rules.specs.Complete.{withoutBefores, landedSlot, landedSlots, landing, completedSlots, completed}
-use Rattle.rules.specs.Refusals.{First, openCases}
-use Rattle.rules.specs.Calls.{plainNumber, createNumber, writeNumber, Opening, Opens, Creation, Creates, Writing, Writes, Completion, Completes, sentSet}
+use Rattle.rules.specs.Refusals.{First, TakesSlot, openCases}
+use Rattle.rules.specs.Calls.{plainNumber, createNumber, writeNumber, Opening, Opens, Creation, Accepts, Creates, Writing, Writes}
+use Rattle.rules.specs.Calls.{Completion, Completes, sentSet}
 use Rattle.rules.proofs.Cases.{passed}
 use Rattle.rules.proofs.SlotsBy.{slot-by, length-by}
-use Rattle.rules.specs.Passed.{CreatePassed}
+use Rattle.rules.specs.Passed.{CreateReady, CreatePassed}
 use Rattle.rules.proofs.Granted.{create-passed}
+use Rattle.rules.proofs.Rooms.{rooms-most}
 use Rattle.board.specs.Layout.{numberAt, stateOf, slotIn, slotStart, tableIn, IsTable, inBytes, tagOf, slotBytes, slotsBytes, bytesOf, SlotFits}
 use Rattle.board.specs.Layout.{TableFits}
 use Rattle.board.proofs.Numbers.{number-4, number-8}
@@ -112,13 +117,13 @@ module _ (xs : List ℕ) (b : Bytes xs) where
   }
 
 -- slots that fit, one by one, make a table that fits
-by-fits : (first next : ℕ) (f : ℕ → Slot) → first < 2 ^ 32 → next < 2 ^ 32 → ((i : ℕ) → i < slots → SlotFits (f i))
-    → TableFits (record { first = first; next = next; slots = slotsBy f })
-by-fits first next f a b each = record { first = a; next = b; size = length-by f; each = λ i l. subst SlotFits (sym (slot-by f i l)) (each i l) }
+by-fits : {g : Setting} (first next : ℕ) (f : ℕ → Slot) → g ≡ Board → first < 2 ^ 32 → next < 2 ^ 32 → ((i : ℕ) → i < slots → SlotFits (f i))
+    → TableFits (tableOf g first next (slotsBy f))
+by-fits first next f e a b each = record { setting = e; first = a; next = b; size = length-by f; each = λ i l. subst SlotFits (sym (slot-by f i l)) (each i l) }
 
 table-fits : (xs : List ℕ) → Bytes xs → TableFits (tableIn xs)
 unfolding tableIn
-table-fits xs b = by-fits (numberAt xs 0 4) (numberAt xs 4 4) (λ i. slotIn xs (slotStart i)) (four-fits xs b 0) (four-fits xs b 4)
+table-fits xs b = by-fits (numberAt xs 0 4) (numberAt xs 4 4) (λ i. slotIn xs (slotStart i)) refl (four-fits xs b 0) (four-fits xs b 4)
     (λ i l. slot-fits xs b (slotStart i))
 
 -- ---- what a call makes of slots that fit, fits
@@ -153,16 +158,19 @@ sent-slot-fits goes s f = either-fits goes _ s (with-state-fits (sentState (s .s
 without-fits : (gone : ℕ) (s : Slot) → SlotFits s → SlotFits (withoutBefores gone s)
 without-fits gone s f = record { room = f .room; number = f .number; block = f .block; offset = f .offset; len = f .len; befores = set-lt _ }
 
+more-fits : (m : ℕ) (s : Slot) → SlotFits s → SlotFits (withMore m s)
+more-fits m s f = record { room = f .room; number = f .number; block = f .block; offset = f .offset; len = f .len; befores = set-lt _ }
+
 landed-slot-fits : (landed : ℕ) (commits : Bool) (s : Slot) → SlotFits s → SlotFits (landedSlot landed commits s)
 landed-slot-fits landed commits s f =
     either-fits commits freeSlot _ free-fits (either-fits (isUsed (s .state)) (withoutBefores landed s) s (without-fits landed s f) f)
 
-hold-room : {ss : List Slot} {b : ℕ} {h : Hold} → HoldOf ss b h → roomOf (state.Waiting h) < 2 ^ 32
-hold-room (HoldOf.hard w) = omega arith
-hold-room (HoldOf.soft n r) = omega (arith, r .within)
+hold-room : {g : Setting} {ss : List Slot} {b : ℕ} {h : Hold} → HoldOf g ss b h → roomOf (state.Waiting h) < 2 ^ 32
+hold-room {g} (HoldOf.hard w) = omega arith
+hold-room {g} (HoldOf.soft n r) = omega (arith, r .within, rooms-most g)
 
 module _ (t : Table) (f : TableFits t) where
-  patch-fits : {image undo : List ℕ} (c : Change) (h : Hold) → CreatePassed t image undo c → HoldOf (t .slots) (c .block) h → SlotFits (patch t c h)
+  patch-fits : {image undo : List ℕ} (c : Change) (h : Hold) → CreateReady t image undo c → HoldOf (t .setting) (t .slots) (c .block) h → SlotFits (patch t c h)
   unfolding patch befores
   patch-fits c h v o = record {
     room = hold-room o;
@@ -173,23 +181,32 @@ module _ (t : Table) (f : TableFits t) where
     befores = set-lt _;
   }
 
-  accepted-fits : {image undo : List ℕ} (c : Change) (j : ℕ) (h : Hold) → CreatePassed t image undo c → HoldOf (t .slots) (c .block) h
-      → TableFits (accepted t c j h)
+  accepted-fits : {image undo : List ℕ} (c : Change) (j : ℕ) (h : Hold) → CreatePassed t image undo c → TakesSlot t c
+      → HoldOf (t .setting) (t .slots) (c .block) h → TableFits (accepted t c j h)
   unfolding accepted acceptedSlots
-  accepted-fits c j h v o =
+  accepted-fits c j h v own o =
       let p = patch t c h in
-      by-fits (t .first) (t .next + 1) _ (f .first) (omega (arith, v .last))
-      (λ i l. either-fits (eqb i j) p _ (patch-fits c h v o) (turned-fits h (p .block) (slotAt (t .slots) i) (f .each i l)))
+      by-fits (t .first) (t .next + 1) _ (f .setting) (f .first) (omega (arith, v .last own))
+      (λ i l. either-fits (eqb i j) p _ (patch-fits c h (v .ready) o) (turned-fits h (p .block) (slotAt (t .slots) i) (f .each i l)))
+
+  joined-fits : (c : Change) (j : ℕ) → TableFits (joined t c j)
+  unfolding joined joinedSlots
+  joined-fits c j =
+      let m = added (t .slots) c in
+      by-fits (t .first) (t .next) _ (f .setting) (f .first) (f .next)
+      (λ i l.
+      let s = turned-fits hold.Hard (c .block) (slotAt (t .slots) i) (f .each i l) in
+      either-fits (eqb i j) (withMore m (turned hold.Hard (c .block) (slotAt (t .slots) i))) _ (more-fits m _ s) s)
 
   sent-fits : (s : ℕ) → TableFits (sent t s)
   unfolding sent sentSlots
-  sent-fits s = by-fits (t .first) (t .next) _ (f .first) (f .next) (λ i l. sent-slot-fits (has s i) (slotAt (t .slots) i) (f .each i l))
+  sent-fits s = by-fits (t .first) (t .next) _ (f .setting) (f .first) (f .next) (λ i l. sent-slot-fits (has s i) (slotAt (t .slots) i) (f .each i l))
 
   completed-fits : (b : ℕ) → TableFits (completed t b)
   unfolding completed completedSlots landedSlots
   completed-fits b =
       let landed = landing (t .slots) b in
-      by-fits (t .first) (t .next) _ (f .first) (f .next) (λ i l. landed-slot-fits landed (has landed i) (slotAt (t .slots) i) (f .each i l))
+      by-fits (t .first) (t .next) _ (f .setting) (f .first) (f .next) (λ i l. landed-slot-fits landed (has landed i) (slotAt (t .slots) i) (f .each i l))
 
 -- ---- the theorems
 
@@ -197,27 +214,35 @@ module _ (t : Table) (f : TableFits t) where
 abbrev pub ReadsBack : Table → Type 0
 ReadsBack t = (tableIn (bytesOf t) ≡ t) × IsTable (bytesOf t)
 
-opened-fits : (m : ℕ) → m < 2 ^ 32 → TableFits (opened m)
-opened-fits m l = by-fits m m (λ i. freeSlot) l l (λ i b. free-fits)
+opened-fits : (m : ℕ) → m < 2 ^ 32 → TableFits (opened Board m)
+opened-fits m l = by-fits m m (λ i. freeSlot) refl l l (λ i b. free-fits)
 
-pub open-kept : (n : ℕ) (o : Opening) → Opens n o → ReadsBack (o .table)
+pub open-kept : (n : ℕ) (o : Opening) → Opens Board n o → ReadsBack (o .table)
 open-kept n o p = go (ℕ-discrete (plainNumber (o .answer)) 0)
   where
     go : Dec (plainNumber (o .answer) ≡ 0) → ReadsBack (o .table)
-    go (no d) = subst (λ (x : Opening). ReadsBack (x .table)) (sym (p .refusal d)) (read-back (opened 1) (opened-fits 1 (omega arith)))
+    go (no d) = subst (λ (x : Opening). ReadsBack (x .table)) (sym (p .refusal d)) (read-back (opened Board 1) (opened-fits 1 (omega arith)))
     go (yes z) =
         let f = passed (λ e. omega arith) (subst (First (openCases n)) z (p .first)) in
         let b : (lastNumber < n → ⊥) = λ l. f .0 (inr l) in
-        subst (λ (x : Opening). ReadsBack (x .table)) (sym (p .grant z)) (read-back (opened n) (opened-fits n (omega (arith, b))))
+        subst (λ (x : Opening). ReadsBack (x .table)) (sym (p .grant z)) (read-back (opened Board n) (opened-fits n (omega (arith, b))))
 
 module _ (xs : List ℕ) (bytes : Bytes xs) where
   pub create-kept : (image undo : List ℕ) (c : Change) (o : Creation) → Creates (tableIn xs) image undo c o → createNumber (o .answer) ≡ 0
       → ReadsBack (o .table)
-  create-kept image undo c o p z =
-      let g = p .grant z in
-      let v = create-passed p z in
-      subst (λ (x : Creation). ReadsBack (x .table)) (sym (g .whole))
-      (read-back (accepted (tableIn xs) c (g .slot) (g .hold)) (accepted-fits (tableIn xs) (table-fits xs bytes) c (g .slot) (g .hold) v (g .hard-or-soft)))
+  create-kept image undo c o p z = go (p .grant z)
+    where
+      t : Table
+      t = tableIn xs
+
+      go : Accepts t image undo c o → ReadsBack (o .table)
+      go (Accepts.takes own g) =
+          subst (λ (x : Creation). ReadsBack (x .table)) (sym (g .whole))
+          (read-back (accepted t c (g .slot) (g .hold))
+          (accepted-fits t (table-fits xs bytes) c (g .slot) (g .hold) (create-passed p z) own (g .hard-or-soft)))
+      go (Accepts.joins j g) =
+          subst (λ (x : Creation). ReadsBack (x .table)) (sym (g .whole))
+          (read-back (joined t c (g .slot)) (joined-fits t (table-fits xs bytes) c (g .slot)))
 
   pub write-kept : (image undo handed : List ℕ) (b : ℕ) (o : Writing) → Writes (tableIn xs) image undo handed b o → writeNumber (o .answer) ≡ 0
       → ReadsBack (o .table)

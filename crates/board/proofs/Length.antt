@@ -5,6 +5,7 @@ use mathlib.Core.List.{List}
 use native.Mathlib.Decide.{ℕ-discrete}
 use borrow.Author.Tests.{eq-eqb, ne-eqb}
 use lib.ListN.{length}
+use Rattle.rules.specs.declared.Setting.the-variants.{Board}
 use Rattle.rules.specs.Table.{Table}
 use Rattle.rules.specs.Open.{opened}
 use Rattle.rules.specs.Calls.{Opening, Opens, plainNumber}
@@ -14,7 +15,7 @@ pub read-whole : (bytes : List ℕ) → length bytes ≡ tableBytes → tableRea
 unfolding tableRead
 read-whole bytes e = rw (eq-eqb (length bytes) tableBytes e)
 
-pub read-other : (bytes : List ℕ) → (length bytes ≡ tableBytes → ⊥) → tableRead bytes ≡ opened 1
+pub read-other : (bytes : List ℕ) → (length bytes ≡ tableBytes → ⊥) → tableRead bytes ≡ opened Board 1
 unfolding tableRead
 read-other bytes d = rw (ne-eqb (length bytes) tableBytes d)
 
@@ -27,7 +28,7 @@ unfolding tableStored
 stored-other bytes t d = rw (ne-eqb (length bytes) tableBytes d)
 
 -- opened at 1, granted or not, the table is the empty one with first 1
-pub opens-one : (o : Opening) → Opens 1 o → o .table ≡ opened 1
+pub opens-one : (o : Opening) → Opens Board 1 o → o .table ≡ opened Board 1
 opens-one o p = elim (ℕ-discrete (plainNumber (o .answer)) 0) [
   | yes z ↦ ap (λ (x : Opening). x .table) (p .grant z)
   | no d ↦ ap (λ (x : Opening). x .table) (p .refusal d)

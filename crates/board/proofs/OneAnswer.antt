@@ -5,6 +5,7 @@ use mathlib.Core.List.{List}
 use native.Mathlib.Decide.{ℕ-discrete, decLe}
 use native.Mathlib.Omega.{arith}
 use lib.ListN.{length}
+use Rattle.rules.specs.declared.Setting.the-variants.{Board}
 use Rattle.rules.specs.Sizes.{slots}
 use Rattle.rules.specs.Create.{Change}
 use Rattle.rules.specs.Ask.{askWord}
@@ -47,7 +48,7 @@ module _ {table : List ℕ} where
       by (yes e) =
           let a = p .sized e in
           let b = q .sized e in
-          let o = open-one first (a .0) (b .0) (a .1) (b .1) in
+          let o = open-one Board first (a .0) (b .0) (a .1) (b .1) in
           (a .2 ∙ ap (λ (x : Opening). plainNumber (x .answer)) o ∙ sym (b .2), a .3 ∙ ap (λ (x : Opening). bytesOf (x .table)) o ∙ sym (b .3))
       by (no d) = (p .other d .0 ∙ sym (q .other d .0), p .other d .1 ∙ sym (q .other d .1))
 

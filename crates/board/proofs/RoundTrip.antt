@@ -1,4 +1,4 @@
--- Reading back what was written gives the same table: for every table whose fields fit their widths. Assumes nothing.
+-- Reading back what was written gives the same table: for every table of the board whose fields fit their widths. Assumes nothing.
 use Prim.Native.Nat.{ℕ, zero, suc, _+_, _*_, _^_, _≤_, _<_}
 use mathlib.Core.Path.{_≡_, refl, sym, ap, ap₂, subst, _∙_}
 use mathlib.Core.List.{List, _∷_, _++_}
@@ -6,6 +6,7 @@ use native.Mathlib.Nat.{add-zero, add-assoc}
 use native.Mathlib.Omega.{arith}
 use lib.ListN.{length, getD, take, drop}
 use lib.Seq.{split-at, length-take-le, getD-append-add}
+use Rattle.rules.specs.declared.Setting.{Setting}
 use Rattle.rules.specs.declared.Hold.the-variants as hold
 use Rattle.rules.specs.declared.Kind.the-variants as kind
 use Rattle.rules.specs.declared.State.{State}
@@ -111,8 +112,8 @@ tag-there t i w =
     (slotBytes (slotAt (t .slots) i) ++ w .rest) 4 ∙ tag-back (slotAt (t .slots) i) (w .rest)))
     (tag-most (slotAt (t .slots) i .state))
 
-same-table : {f f′ n n′ : ℕ} {ss ss′ : List Slot} → f ≡ f′ → n ≡ n′ → ss ≡ ss′ → tableOf f n ss ≡ tableOf f′ n′ ss′
-same-table p q r = cc
+same-table : {g g′ : Setting} {f f′ n n′ : ℕ} {ss ss′ : List Slot} → g ≡ g′ → f ≡ f′ → n ≡ n′ → ss ≡ ss′ → tableOf g f n ss ≡ tableOf g′ f′ n′ ss′
+same-table p q r s = cc
 
 first-back : (t : Table) → t .first < 2 ^ 32 → numberAt (bytesOf t) 0 4 ≡ t .first
 unfolding numberAt inBytes bytesOf
@@ -125,7 +126,7 @@ next-back t l = four-back (t .next) l
 pub read-back : (t : Table) → TableFits t → (tableIn (bytesOf t) ≡ t) × IsTable (bytesOf t)
 unfolding tableIn
 read-back t f = (
-  same-table (first-back t (f .first)) (next-back t (f .next))
+  same-table (sym (f .setting)) (first-back t (f .first)) (next-back t (f .next))
       (sym (slots-are (t .slots) (λ i. slotIn (bytesOf t) (slotStart i)) (f .size)
       (λ i l. sym (slot-there t i (stands t i (omega (arith, f .size))) (f .each i l))))),
   record { size = length-table t (f .size); tags = λ i l. tag-there t i (stands t i (omega (arith, f .size))) },

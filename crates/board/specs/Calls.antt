@@ -8,11 +8,13 @@ use mathlib.Core.Logic.{_⊎_}
 use mathlib.Core.Option.{Option, none, some}
 use lib.Dec.{eqb}
 use lib.ListN.{length}
+use Rattle.rules.specs.declared.Setting.the-variants.{Board}
 use Rattle.rules.specs.declared.Hold.{Hold}
 use Rattle.rules.specs.declared.Hold.the-variants as hold
 use Rattle.rules.specs.declared.AskAnswer.{AskAnswer}
 use Rattle.rules.specs.declared.CountAnswer.{CountAnswer}
-use Rattle.rules.specs.Sizes.{imageBytes, undoBytes, blockBytes}
+use Rattle.rules.specs.Sizes.{imageBytes, blockBytes}
+use Rattle.rules.specs.Settings.{undoBytes}
 use Rattle.rules.specs.Table.{Table}
 use Rattle.rules.specs.Create.{Change}
 use Rattle.rules.specs.Ask.{askWord}
@@ -31,7 +33,7 @@ noTableCases table wrong = case 1 wrong ∷ case 2 (IsTable table → ⊥) ∷ [
 
 -- OPEN asks nothing of the bytes but their length. Refused 15, it writes the empty table with first 1
 pub record OpenCall (table : List ℕ) (first refusal : ℕ) (after : List ℕ) : Type 0 where
-  pub sized : length table ≡ tableBytes → (o : Opening) × Opens first o × (refusal ≡ plainNumber (o .answer)) × (after ≡ bytesOf (o .table))
+  pub sized : length table ≡ tableBytes → (o : Opening) × Opens Board first o × (refusal ≡ plainNumber (o .answer)) × (after ≡ bytesOf (o .table))
   pub other : (length table ≡ tableBytes → ⊥) → (refusal ≡ 2) × (after ≡ table)
 
 -- CREATE. hold: 0 no word, 1 hard, 2 + r soft with undo room r
@@ -64,7 +66,7 @@ createNone table image undo k = record { refusal = k; number = 0; hold = 0; tabl
 
 pub record CreateCall (table image undo : List ℕ) (c : Change) (e : CreateEnd) : Type 0 where
   pub is-table : IsTable table → (o : Creation) × Creates (tableIn table) image undo c o × (e ≡ createEnd table o)
-  pub no-table : (IsTable table → ⊥) → First (noTableCases table (WrongSize imageBytes image ⊎ WrongSize undoBytes undo)) (e .refusal)
+  pub no-table : (IsTable table → ⊥) → First (noTableCases table (WrongSize imageBytes image ⊎ WrongSize (undoBytes Board) undo)) (e .refusal)
       × (e ≡ createNone table image undo (e .refusal))
 
 -- WRITE. What a write leaves; set: bit i where slot i was sent
@@ -92,7 +94,7 @@ writeNone table image undo handed k = record { refusal = k; set = 0; table = tab
 pub record WriteCall (table image undo handed : List ℕ) (block : ℕ) (e : WriteEnd) : Type 0 where
   pub is-table : IsTable table → (o : Writing) × Writes (tableIn table) image undo handed block o × (e ≡ writeEnd table o)
   pub no-table : (IsTable table → ⊥)
-      → First (noTableCases table (WrongSize imageBytes image ⊎ (WrongSize undoBytes undo ⊎ WrongSize blockBytes handed))) (e .refusal)
+      → First (noTableCases table (WrongSize imageBytes image ⊎ (WrongSize (undoBytes Board) undo ⊎ WrongSize blockBytes handed))) (e .refusal)
       × (e ≡ writeNone table image undo handed (e .refusal))
 
 -- COMPLETE

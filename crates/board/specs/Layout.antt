@@ -1,10 +1,11 @@
--- The table as 2,056 bytes that the caller keeps, and what they mean. Every number is little-endian; board.h has the same places.
+-- The table as 2,056 bytes that the caller keeps, and what they mean, always under the setting of the board. Every number is little-endian; board.h has the same places.
 use Prim.Native.Nat.{ℕ, zero, suc, _+_, _*_, _/_, _%_, _^_, _≤_, _<_}
 use mathlib.Core.Path.{_≡_}
 use mathlib.Core.Bool.{cond}
 use mathlib.Core.List.{List, [], _∷_, _++_}
 use lib.Dec.{eqb}
 use lib.ListN.{length, getD}
+use Rattle.rules.specs.declared.Setting.the-variants.{Board}
 use Rattle.rules.specs.declared.Hold.the-variants as hold
 use Rattle.rules.specs.declared.Kind.the-variants as kind
 use Rattle.rules.specs.declared.State.{State}
@@ -12,7 +13,7 @@ use Rattle.rules.specs.declared.State.the-variants as state
 use Rattle.rules.specs.declared.Slot.{Slot}
 use Rattle.rules.specs.Sizes.{slots}
 use Rattle.rules.specs.Slots.{roomOf}
-use Rattle.rules.specs.Table.{Table, slotAt, slotsBy}
+use Rattle.rules.specs.Table.{Table, tableOf, slotAt, slotsBy}
 use Rattle.rules.specs.Open.{opened}
 
 -- first (4 bytes), next (4), then 64 slots of 32 bytes
@@ -47,7 +48,7 @@ slotIn bytes at = record {
 }
 
 unfoldable pub tableIn : List ℕ → Table
-tableIn bytes = record { first = numberAt bytes 0 4; next = numberAt bytes 4 4; slots = slotsBy (λ i. slotIn bytes (slotStart i)) }
+tableIn bytes = tableOf Board (numberAt bytes 0 4) (numberAt bytes 4 4) (slotsBy (λ i. slotIn bytes (slotStart i)))
 
 -- bytes that are a table: of this length, and no tag above 4
 pub record IsTable (bytes : List ℕ) : Type 0 where
@@ -86,7 +87,7 @@ bytesOf t = inBytes 4 (t .first) ++ inBytes 4 (t .next) ++ slotsBytes (t .slots)
 
 -- WHATEVER THE LENGTH. What is read of bytes of another length is an empty table, and over those nothing is written. No call meets them
 unfoldable pub tableRead : List ℕ → Table
-tableRead bytes = cond (eqb (length bytes) tableBytes) (tableIn bytes) (opened 1)
+tableRead bytes = cond (eqb (length bytes) tableBytes) (tableIn bytes) (opened Board 1)
 
 unfoldable pub tableStored : List ℕ → Table → List ℕ
 tableStored bytes t = cond (eqb (length bytes) tableBytes) (bytesOf t) bytes
@@ -100,7 +101,9 @@ pub record SlotFits (s : Slot) : Type 0 where
   pub len : s .len < 2 ^ 32
   pub befores : s .befores < 2 ^ 64
 
+-- of every slot; and the setting, which has no bytes, is the board's
 pub record TableFits (t : Table) : Type 0 where
+  pub setting : t .setting ≡ Board
   pub first : t .first < 2 ^ 32
   pub next : t .next < 2 ^ 32
   pub size : length (t .slots) ≡ slots

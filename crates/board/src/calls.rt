@@ -15,6 +15,7 @@ use rules::AskAnswer;
 use rules::CountAnswer;
 use rules::CreateAnswer;
 use rules::Hold;
+use rules::Setting;
 use rules::WriteAnswer;
 use rules::refusals::BUFFER_SIZE;
 use rules::refusals::NOT_SOUND;
@@ -29,7 +30,7 @@ pub extern "C" fn board_open(table: &mut [u8], first: u32) -> u32
     if table.len() != TABLE_BYTES {
         return NOT_SOUND;
     }
-    let o = Table::open(first);
+    let o = Table::open(Setting::Board, first);
     let next = o.table;
     store(table, next);
     let answer = o.answer;

@@ -1,4 +1,5 @@
 // A table from its bytes. Whether they are one is tested first, since they are input like the rest.
+// They have no place for a setting: it is always the board's.
 ghost use Prim.Native.Nat.{_+_, _≤_, _<_};
 ghost use mathlib.Core.Path.{_≡_};
 ghost use lib.ListN.{length};
@@ -9,6 +10,7 @@ use crate::layout::TABLE_BYTES;
 use cache::types::Table;
 use rules::Hold;
 use rules::Kind;
+use rules::Setting;
 use rules::Slot;
 use rules::State;
 use rules::sizes::SLOTS;
@@ -102,10 +104,11 @@ pub fn table_in(bytes: &[u8]) -> Table
     ensures { λ r. ⌜ seen r ≡ tableRead (now (bytes .entry)) ⌝ }
 {
     if bytes.len() != TABLE_BYTES {
-        let o = Table::open(1);
+        let o = Table::open(Setting::Board, 1);
         return o.table;
     }
     Table {
+        setting: Setting::Board,
         first: number_at(bytes, 0),
         next: number_at(bytes, 4),
         slots: slots_in(bytes),

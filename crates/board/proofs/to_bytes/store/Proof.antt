@@ -40,11 +40,11 @@ turn c = c .before .before
 sized-here : (c : tie.After-put Inv-loop μ-loop) → length (now (start c .args .bytes)) ≡ 2056
 sized-here c = let test = c .before .before in test .if1 .left
 
--- the table has 64 slots: what is known of a table that is handed over says so of its third field
+-- the table has 64 slots: what is known of a table that is handed over says so of its fourth field
 size : (c : tie.Start Inv-loop μ-loop) → length (c .args .t2 .slots) ≡ 64
 size c =
     let table = c .good .1 .0 in
-    let fields = table .1 .1 in
+    let fields = table .1 .1 .1 in
     let slots = fields .1 .1 in
     let array = slots .0 .1 in
     simp length-map at (array .0 .1)
