@@ -144,8 +144,9 @@ fn orders(driver: &mut Driver, seed: u64, calls: u64) -> bool {
 
 /// Prints what was reached; false when something was not, though there were calls enough for it.
 fn reached(driver: &Driver, enough: bool) -> bool {
-    driver.cover.print();
-    let missing = driver.cover.missing();
+    let setting = driver.pair.library.setting();
+    driver.cover.print(setting);
+    let missing = driver.cover.missing(setting);
     for name in &missing {
         println!("NOT REACHED: {name}");
     }

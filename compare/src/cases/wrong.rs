@@ -52,12 +52,12 @@ wrong!(SmallestSet: fn largest_that_may_go(&self, t: &Table, block: u32) -> Slot
 wrong!(TouchingOverlaps: fn share_a_byte(&self, p: &Slot, start: u64, end: u64) -> bool { u64::from(p.offset) <= end && start <= p.end() });
 wrong!(OverlapOnlyWaiting: fn overlaps(&self, p: &Slot, change: &Change) -> bool { p.waiting() && Right.overlaps(p, change) });
 wrong!(OverlapOnEveryBlock: fn overlaps(&self, p: &Slot, c: &Change) -> bool { Right.overlaps(&Slot { block: c.block, ..p.clone() }, c) });
-wrong!(NamesOnlyWaiting: fn befores(&self, t: &Table, change: &Change) -> Slots {
-    Right.befores(t, change).into_iter().filter(|&i| t.slots[i].waiting() || Right.overlaps(&t.slots[i], change)).collect()
+wrong!(NamesOnlyWaiting: fn named(&self, t: &Table, change: &Change) -> Slots {
+    Right.named(t, change).into_iter().filter(|&i| t.slots[i].waiting()).collect()
 });
 wrong!(SlotsFromOne: fn lowest_free_slot(&self, t: &Table) -> Option<usize> { (1..SLOTS).find(|&i| !t.slots[i].used()) });
 wrong!(HighestSlot: fn lowest_free_slot(&self, t: &Table) -> Option<usize> { (0..SLOTS).rev().find(|&i| !t.slots[i].used()) });
-wrong!(FifteenRooms: fn lowest_free_room(&self, t: &Table) -> Option<u32> { (0..ROOMS - 1).find(|r| !t.rooms_taken().contains(r)) });
+wrong!(FifteenRooms: fn lowest_free_room(&self, t: &Table) -> Option<u32> { (0..t.setting.rooms() - 1).find(|r| !t.rooms_taken().contains(r)) });
 wrong!(SoftStaysSoft: fn turn_waiting_soft_hard(&self, _: &mut Table, _: u32) {});
 wrong!(TurnsEveryBlock: fn turn_waiting_soft_hard(&self, t: &mut Table, _: u32) { (0..64).for_each(|b| Right.turn_waiting_soft_hard(t, b)) });
 wrong!(AlwaysHard: fn would_be_hard(&self, _: &Table, _: u32) -> bool { true });
@@ -103,7 +103,7 @@ wrong!(AlwaysNumberOne: fn create(&self, t: &mut Table, i: &mut [u8], u: &mut [u
 wrong!(TouchesNothing: fn create(&self, t: &mut Table, i: &mut [u8], u: &mut [u8], c: &Change) -> Result<(u32, State), Refusal> {
     Right.create(&mut t.clone(), &mut i.to_vec(), &mut u.to_vec(), c)
 });
-wrong!(OpenKeepsFirst: fn open(&self, first: u32) -> (Result<(), Refusal>, Table) { (Right.open(first).0, Table::empty(first)) });
+wrong!(OpenKeepsFirst: fn open(&self, first: u32) -> (Result<(), Refusal>, Table) { (Right.open(first).0, Table::empty(self.setting(), first)) });
 wrong!(RefusesEverything: fn judge(&self, kind: Kind, t: &Table, asked: &Asked) -> Result<(), Refusal> {
     Right.judge(kind, t, asked)?;
     self.tests(kind).pop().map_or(Ok(()), Err)

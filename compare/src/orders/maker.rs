@@ -1,9 +1,7 @@
 //! Makes call orders from a seed. The next call is chosen with an eye on the table as it stands,
 //! so that orders reach full slots, full rooms, overlaps, chains over blocks and every refusal.
 
-use crate::model::table::{
-    BLOCK_BYTES, Kind, LAST_BLOCK, LAST_NUMBER, LONGEST_DATA, MOST_NAMED, ROOMS, Table,
-};
+use crate::model::table::{BLOCK_BYTES, Kind, LAST_BLOCK, LAST_NUMBER, LONGEST_DATA, MOST_NAMED, Table};
 use crate::orders::faults;
 use crate::orders::random::Random;
 use crate::orders::steps::{Step, ask, complete, count, create, open, write};
@@ -76,7 +74,7 @@ pub fn first_number(random: &mut Random) -> u32 {
 
 /// All slots or all rooms are taken.
 fn crowded(table: &Table) -> bool {
-    table.slots.iter().all(|slot| slot.used()) || table.rooms_taken().len() == ROOMS as usize
+    table.slots.iter().all(|slot| slot.used()) || table.rooms_taken().len() == table.setting.rooms() as usize
 }
 
 fn none_in_flight(table: &Table) -> bool {
