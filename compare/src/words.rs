@@ -9,6 +9,8 @@ usage: compare COMMAND [WAY]
   one SEED          the order of one seed again, call by call
   pasted            the orders pasted into src/pasted.rs
   wrong [show]      wrong models stand in for the library; each must be caught
+  settings [N]      the model alone, with cuts, under the two settings without joining: 100,000 calls each, or N
+  paper             the source paper's figures 3 and 2b: its numbers beside ours
   once [ORDERS]     the benchmark's calls once, for a tool that counts instructions
   bench             time a call of the library and of the plain program, both behind a pipe (x86-64)
 ways, other than linked in (elsewhere than on x86-64: other than --pipe)
@@ -16,6 +18,8 @@ ways, other than linked in (elsewhere than on x86-64: other than --pipe)
   --plain           the plain program, behind a pipe, in the library's place
   --model           the model in the library's place";
 
+/// Calls under each of the other settings: enough to reach all that is on their lists.
+pub const SETTING_CALLS: u64 = 100_000;
 const LONG_SEED: u64 = 2;
 const ORDERS: u64 = 100;
 
@@ -26,6 +30,8 @@ pub enum Command {
     One { seed: u64 },
     Pasted,
     Wrong { show: bool },
+    Settings { calls: u64 },
+    Paper,
     Once { orders: u64 },
     Bench,
 }
@@ -53,6 +59,9 @@ pub fn asked(words: &[String]) -> Result<(Command, Through), String> {
         ["pasted"] => Command::Pasted,
         ["wrong"] => Command::Wrong { show: false },
         ["wrong", "show"] => Command::Wrong { show: true },
+        ["paper"] => Command::Paper,
+        ["settings"] => Command::Settings { calls: SETTING_CALLS },
+        ["settings", calls] => Command::Settings { calls: number(calls)? },
         ["once"] => Command::Once { orders: ORDERS },
         ["once", orders] => Command::Once { orders: number(orders)? },
         ["bench"] => Command::Bench,

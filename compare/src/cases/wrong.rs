@@ -1,7 +1,7 @@
 //! Shows that the comparison can fail: models with one rule wrong each, standing in for the
 //! library. Each must be caught.
 
-use crate::cases::{fixed, sweep};
+use crate::cases::{fixed, paper, sweep};
 use crate::judge::cover::Cover;
 use crate::judge::drive::Driver;
 use crate::judge::run::Pair;
@@ -324,7 +324,9 @@ fn caught_by_cuts(library: &dyn Library) -> Option<u64> {
 fn caught(pair: Pair, show: bool) -> Option<Caught> {
     let mut driver = Driver::new(pair);
     let mut before = 0;
-    for (name, run) in [("fixed cases", fixed::run as Written), ("tables", sweep::run as Written)] {
+    let written: [(&str, Written); 3] =
+        [("fixed cases", fixed::run), ("figures", paper::run), ("tables", sweep::run)];
+    for (name, run) in written {
         match run(pair, &mut driver.cover) {
             Ok(calls) => before += calls as u64,
             Err((calls, what)) => {

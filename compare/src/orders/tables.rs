@@ -3,7 +3,7 @@
 
 use crate::model::bytes::{SLOT_BYTES, TABLE_BYTES, encoded};
 use crate::model::setting::Setting;
-use crate::model::table::{LAST_NUMBER, SLOTS, Slot, Slots, State, Table};
+use crate::model::table::{LAST_BLOCK, LAST_NUMBER, SLOTS, Slot, Slots, State, Table};
 use crate::orders::maker::first_number;
 use crate::orders::random::Random;
 
@@ -20,13 +20,14 @@ struct Likes {
 impl Likes {
     fn of_seed(random: &mut Random) -> Likes {
         let count = 1 + random.below(5);
-        let blocks: Vec<u32> = (0..count).map(|_| random.pick(&[0, 1, 2, 31, 62, 63])).collect();
+        let few: Vec<u32> = (0..count).map(|_| random.pick(&[0, 1, 2, 31, 62, 63])).collect();
+        let blocks = if random.percent(15) { (0..=LAST_BLOCK).collect() } else { few };
         let flying = blocks.iter().copied().filter(|_| random.percent(35)).collect();
         Likes {
             blocks,
             flying,
-            used: random.pick(&[5, 20, 40, 80, 97, 100]),
-            soft: random.pick(&[0, 20, 60, 95]),
+            used: random.pick(&[5, 20, 40, 80, 90, 97, 100]),
+            soft: random.pick(&[0, 20, 60, 90, 95, 100]),
             befores: random.pick(&[0, 1, 2, 5, 20]),
             remains: random.percent(50),
         }
@@ -71,7 +72,7 @@ pub fn sound(random: &mut Random, setting: Setting) -> Table {
             table.slots[i] = remains(random);
         }
     }
-    if random.percent(25) {
+    if random.percent(40) {
         add_chains(random, &mut table);
     } else {
         add_befores(random, &likes, &mut table);
@@ -121,8 +122,9 @@ fn add_chains(random: &mut Random, table: &mut Table) {
     let mut used: Vec<usize> = table.patches().map(|(i, _)| i).collect();
     random.shuffle(&mut used);
     used.sort_by_key(|&slot| table.slots[slot].block);
+    let links = random.pick(&[85, 97]);
     for pair in used.windows(2) {
-        if random.percent(85) {
+        if random.percent(links) {
             table.slots[pair[0]].befores.insert(pair[1]);
         }
     }
