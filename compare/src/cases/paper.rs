@@ -189,8 +189,10 @@ fn one_setting(pair: Pair, cover: &mut Cover) -> Result<(Found, usize), (usize, 
     if found != wanted(setting) {
         return Err((calls, format!("figure 3, {setting:?}: {found:?}, wanted {:?}", wanted(setting))));
     }
+    // Where every patch is soft nothing keeps i2 from going alone, and there is no circle to break.
     let circle = Case { name: "figure 2b", table: None, rows: figure_2b(setting) };
-    let rows = run_cases(pair, cover, vec![circle]).map_err(|(row, what)| (calls + row, what))?;
+    let circles = if setting.all_soft() { Vec::new() } else { vec![circle] };
+    let rows = run_cases(pair, cover, circles).map_err(|(row, what)| (calls + row, what))?;
     Ok((found, calls + rows))
 }
 
@@ -242,6 +244,8 @@ pub fn print(pair: Pair) -> bool {
     line("   undo bytes, a data block of 64", "", board.undo.to_string());
     let writes: Vec<String> = results.iter().map(|found| found.writes.to_string()).collect();
     line("blocks written, the inode block last: a, b, c", "8", writes.join(", "));
-    println!("figure 2b: the bitmap without b2, the inode block, the bitmap with b2, as the paper has it");
+    println!(
+        "figure 2b, b and c: the bitmap without b2, the inode block, the bitmap with b2, as the paper has it"
+    );
     true
 }
