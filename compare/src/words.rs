@@ -11,6 +11,7 @@ usage: compare COMMAND [WAY]
   wrong [show]      wrong models stand in for the library; each must be caught
   settings [N]      the model alone, with cuts, under the two settings without joining: 100,000 calls each, or N
   paper             the source paper's figures 3 and 2b: its numbers beside ours
+  gain              what ends a run of one-byte changes on one page and on eight, without joining and with it
   once [ORDERS]     the benchmark's calls once, for a tool that counts instructions
   bench             time a call of the library and of the plain program, both behind a pipe (x86-64)
 ways, other than linked in (elsewhere than on x86-64: other than --pipe)
@@ -32,6 +33,7 @@ pub enum Command {
     Wrong { show: bool },
     Settings { calls: u64 },
     Paper,
+    Gain,
     Once { orders: u64 },
     Bench,
 }
@@ -60,6 +62,7 @@ pub fn asked(words: &[String]) -> Result<(Command, Through), String> {
         ["wrong"] => Command::Wrong { show: false },
         ["wrong", "show"] => Command::Wrong { show: true },
         ["paper"] => Command::Paper,
+        ["gain"] => Command::Gain,
         ["settings"] => Command::Settings { calls: SETTING_CALLS },
         ["settings", calls] => Command::Settings { calls: number(calls)? },
         ["once"] => Command::Once { orders: ORDERS },

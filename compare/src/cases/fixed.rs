@@ -171,6 +171,19 @@ fn edges_of_open() -> Vec<Row> {
     ]
 }
 
+/// At the last number a creation joins or is refused 8: a soft one does not join.
+fn last_number() -> Vec<Row> {
+    vec![
+        ("open", open(999_999_999), granted()),
+        ("one on block 1", create(1, 0, &[1], &[]), hard(999_999_999)),
+        ("one on block 2 names it", create(2, 0, &[2], &[999_999_999]), hard(1_000_000_000)),
+        ("it would be soft: 8", create(1, 1, &[3], &[]), refused(8)),
+        ("on block 2 it joins", create(2, 1, &[4], &[1_000_000_000, 999_999_999]), hard(1_000_000_000)),
+        ("block 1 goes", write(1), sends(&[0], &[(1, 1)])),
+        ("nothing waits there: 8", create(1, 1, &[3], &[]), refused(8)),
+    ]
+}
+
 /// Sixty-four creates on block 0 use one slot, and so do the next thousand.
 fn one_slot() -> Vec<Row> {
     let mut rows = vec![("open", open(1), granted())];
@@ -436,6 +449,7 @@ fn all() -> Vec<Case> {
         case("the branch after P6", branch_after_p6()),
         case("edges of create", edges_of_create()),
         case("edges of open", edges_of_open()),
+        case("the last number", last_number()),
         case("one slot for many changes", one_slot()),
         case("full slots", full_slots()),
         case("a join that adds befores", join_adds_befores()),

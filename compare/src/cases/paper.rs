@@ -1,5 +1,6 @@
 //! The source paper's own examples (000), scaled to our blocks, with the numbers that it gives: figure 3, appending four blocks to a
-//! file, and figure 2b, a circle between two blocks. The one check here whose numbers none of us chose.
+//! file, and figure 2b, a circle between two blocks. How many patches, hard ones, entries and writes there are is the paper's word and
+//! none of ours; what a change has in bytes is ours, so the bytes of undo are.
 //!
 //! On the board they run on what is under test, beside the model and with cuts; under the two other settings on the model.
 
@@ -244,8 +245,9 @@ pub fn print(pair: Pair) -> bool {
     line("   undo bytes, a data block of 64", "", board.undo.to_string());
     let writes: Vec<String> = results.iter().map(|found| found.writes.to_string()).collect();
     line("blocks written, the inode block last: a, b, c", "8", writes.join(", "));
+    println!("(undo bytes for 4,096 are reckoned from the patches held, not run)");
     println!(
-        "figure 2b, b and c: the bitmap without b2, the inode block, the bitmap with b2, as the paper has it"
+        "figure 2b, without joining and with it: the bitmap without b2, the inode block, the bitmap with b2"
     );
     true
 }
