@@ -1,6 +1,6 @@
 /* The same six calls as a shop would write them in C: masks, arrays, the table read from its bytes and written back, no proofs.
  * It has the functions of board.h, and serve.c linked with it in the archive's place is what the library is measured against;
- * `compare plain` holds it to the second model. */
+ * `compare quick --plain` holds it to the second model. It knows the board's setting alone. */
 #include <string.h>
 
 #include "../board/board.h"

@@ -9,9 +9,6 @@ use crate::model::setting::Setting;
 use crate::model::table::BLOCK_BYTES;
 use crate::orders::steps::{Lent, create, open, play};
 
-/// A run that is not refused is stopped after so many changes.
-const STOPPED: u32 = 1_000_000;
-
 /// How a run ended.
 struct Ended {
     accepted: u32,
@@ -21,11 +18,12 @@ struct Ended {
     slots: usize,
 }
 
-fn changes(library: &dyn Library, pages: u32) -> Ended {
+/// A run that is not refused is stopped after `most` changes.
+fn changes(library: &dyn Library, pages: u32, most: u64) -> Ended {
     let mut lent = Lent::filled(library.setting(), &[0; TABLE_BYTES], 0);
     play(library, &mut lent, &open(1).call);
     let mut ended = Ended { accepted: 0, refusal: 0, soft: 0, slots: 0 };
-    while ended.accepted < STOPPED && ended.refusal == 0 {
+    while u64::from(ended.accepted) < most && ended.refusal == 0 {
         let (page, place) = (ended.accepted % pages, ended.accepted / pages);
         let change = create(page, place % BLOCK_BYTES as u32, &[place as u8], &[]);
         let answer = play(library, &mut lent, &change.call);
@@ -39,7 +37,7 @@ fn changes(library: &dyn Library, pages: u32) -> Ended {
 
 /// Prints the table. Document 01 has 16 rooms, the model without joining 64: a run in which nothing is soft asks for none, so it is
 /// document 01's run as well; one in which something is soft fails.
-pub fn print(library: &dyn Library) -> bool {
+pub fn print(library: &dyn Library, most: u64) -> bool {
     let before = Mock(Under(Setting::HardRule));
     println!(
         "one-byte changes, nothing named, nothing written: the refusal that ends the run, and after how many"
@@ -47,7 +45,7 @@ pub fn print(library: &dyn Library) -> bool {
     println!("{:14} {:>26} {:>26}", "pages", "without joining", "under test");
     let mut as_in_document_01 = true;
     for pages in [1, 8] {
-        let (before, after) = (changes(&before, pages), changes(library, pages));
+        let (before, after) = (changes(&before, pages, most), changes(library, pages, most));
         as_in_document_01 &= before.soft == 0;
         println!("{pages:14} {:>26} {:>26}", said(&before), said(&after));
     }

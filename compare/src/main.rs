@@ -86,7 +86,7 @@ fn perform(command: Command, way: Through) -> Result<bool, String> {
         Command::Pasted => pasted_orders(pair(&*under_test()?)),
         Command::Wrong { show } => wrong::run(show),
         Command::Paper => paper::print(pair(&*under_test()?)),
-        Command::Gain => gain::print(&*under_test()?),
+        Command::Gain { most } => gain::print(&*under_test()?, most),
         Command::Settings { calls } => settings(calls),
         Command::Once { orders } => bench::once(&*through::library(way)?.1, orders),
         Command::Bench => bench::run().map(|()| true)?,
