@@ -7,6 +7,12 @@
  * numbers (refused: 0). Nothing is asked of the values: whatever is wrong is refused by number. A refused call changes no byte of
  * the table and of the lent buffers (but board_open, which refuses with the empty table whose first number is 1).
  *
+ * JOINING. A hard change on a block where a patch waits makes no patch of its own: it joins the one with the lowest number, takes
+ * no slot and no new number, and is answered that patch's number, which was given before. So many small changes of one block fill
+ * nothing, and a full table still takes them. The changes of a number go out and land together. Who names a number asks for all
+ * changes answered it so far, and for none that is answered it later; board_ask says where the patch is, and with it all of them;
+ * board_count counts patches, not changes. Do not keep anything by number that is meant for one change alone.
+ *
  * YOUR PART
  * - Before board_open, fill the working image from the store: what it held is what every later change lies over.
  * - Table, working image AND undo area belong together. To go on after a sleep keep all three; with one of them lost, open anew
@@ -77,8 +83,8 @@ static inline const char *board_words(uint32_t refusal)
         "offset + length above 256",
         "more than 8 named numbers",
         "a named or asked number was never issued",
-        "no number is left",
-        "no free slot",
+        "no number is left, and the change joins no patch",
+        "no free slot, and the change joins no patch",
         "would be soft, and all 16 rooms are taken",
         "a patch of the block is in flight",
         "no patch of the block waits",
@@ -92,23 +98,25 @@ static inline const char *board_words(uint32_t refusal)
 /* An empty table whose first and next number are `first`. Tests 2 (the length only), then 15. */
 uint32_t board_open(uint8_t *table, size_t table_len, uint32_t first);
 
-/* A change of `bytes` at `offset` of `block`, after the changes whose numbers are named. It goes into the working image.
- * number: the change's. hold: 1 hard, 2 + r soft with undo room r. Tests 1 to 10. */
+/* A change of `bytes` at `offset` of `block`, after all changes answered so far with the numbers named. It goes into the working
+ * image. number: the change's; a new one, or that of the waiting patch it joins. hold: 1 hard, 2 + r soft with undo room r. Tests
+ * 1 to 10, but 8 and 9 not for a change that joins. */
 uint32_t board_create(uint8_t *table, size_t table_len, uint8_t *image, size_t image_len, uint8_t *undo, size_t undo_len,
                       uint32_t block, uint32_t offset, const uint8_t *bytes, size_t bytes_len, const uint32_t *named,
                       size_t named_len, uint32_t *number, uint32_t *hold);
 
-/* The bytes to send to `block` now, in `handed`. set: bit i where slot i was sent. Tests 1, 2, 3, 11, 12, 13. */
+/* The bytes to send to `block` now, in `handed`. set: bit i where slot i was sent, with all changes of its number. Tests 1, 2, 3,
+ * 11, 12, 13. */
 uint32_t board_write(uint8_t *table, size_t table_len, const uint8_t *image, size_t image_len, const uint8_t *undo,
                      size_t undo_len, uint8_t *handed, size_t handed_len, uint32_t block, uint64_t *set);
 
 /* The block has landed: its changes in flight commit. Tests 2, 3, 14. */
 uint32_t board_complete(uint8_t *table, size_t table_len, uint32_t block);
 
-/* state: 1 waiting, 2 in flight, 3 committed. Tests 2, 7. */
+/* Where the patch with the number is, and so all changes answered it. state: 1 waiting, 2 in flight, 3 committed. Tests 2, 7. */
 uint32_t board_ask(const uint8_t *table, size_t table_len, uint32_t asked, uint32_t *state);
 
-/* count: how many changes of the block wait. Tests 2, 3. */
+/* count: how many patches of the block wait; the changes of one number are one patch. Tests 2, 3. */
 uint32_t board_count(const uint8_t *table, size_t table_len, uint32_t block, uint32_t *count);
 
 #ifdef __cplusplus

@@ -21,8 +21,8 @@ pub fn words(refusal: u32) -> &'static str {
         5 => "offset + length above 256",
         6 => "more than 8 named numbers",
         7 => "a named or asked number was never issued",
-        8 => "no number is left",
-        9 => "no free slot",
+        8 => "no number is left, and the change joins no patch",
+        9 => "no free slot, and the change joins no patch",
         10 => "would be soft, and all 16 rooms are taken",
         11 => "a patch of the block is in flight",
         12 => "no patch of the block waits",
@@ -79,7 +79,8 @@ pub fn open(table: &mut Table, first: u32) -> Result<(), u32> {
     granted(unsafe { board_open(table.as_mut_ptr(), TABLE, first) }, ())
 }
 
-/// A change, after those named: its number, and hard or soft. Refused 2 to 10.
+/// A change, after all changes answered so far with the numbers named: its number, and hard or soft. A hard one may join a waiting
+/// patch of its block and is answered that patch's number ("joining" in board.h). Refused 2 to 10, but 8 and 9 not where it joins.
 pub fn create(
     table: &mut Table, image: &mut [u8; IMAGE], undo: &mut [u8; UNDO], block: u32, offset: u32, bytes: &[u8], named: &[u32],
 ) -> Result<(u32, Hold), u32> {
@@ -111,14 +112,14 @@ pub fn complete(table: &mut Table, block: u32) -> Result<(), u32> {
     granted(unsafe { board_complete(table.as_mut_ptr(), TABLE, block) }, ())
 }
 
-/// Where the change with the number is. Refused 2, 7.
+/// Where the patch with the number is, and so all changes answered it. Refused 2, 7.
 pub fn ask(table: &Table, asked: u32) -> Result<State, u32> {
     let mut state = 0;
     let refusal = unsafe { board_ask(table.as_ptr(), TABLE, asked, &mut state) };
     granted(refusal, match state { 1 => State::Waiting, 2 => State::InFlight, _ => State::Committed })
 }
 
-/// How many changes of the block wait. Refused 2, 3.
+/// How many patches of the block wait; the changes of one number are one patch. Refused 2, 3.
 pub fn count(table: &Table, block: u32) -> Result<u32, u32> {
     let mut count = 0;
     let refusal = unsafe { board_count(table.as_ptr(), TABLE, block, &mut count) };

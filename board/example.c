@@ -1,6 +1,6 @@
 /* Stores a station over two blocks, in order: its name on block 1, then the index entry on block 2 that names it. The
- * index must not reach the store before the name, so the second change names the first. `send` stands for the radio's
- * own driver. */
+ * index must not reach the store before the name, so the second change names the first. A third, on the entry's block,
+ * joins the entry: it is answered the same number and goes with it. `send` stands for the radio's own driver. */
 #include <inttypes.h>
 #include <stdio.h>
 #include <string.h>
@@ -48,6 +48,7 @@ int main(void)
     uint32_t none = 0;
     uint32_t name = change(1, 0, "KRTL", &none, 0);
     uint32_t entry = change(2, 0, "\x01", &name, 1);
+    change(2, 1, "\x63", &none, 0); /* the preset's key: joins the entry, and has its number */
     flush(2); /* 13: the entry follows the name, which has not landed */
     flush(1);
     flush(2); /* 13 still: the name is only in flight */
@@ -58,6 +59,7 @@ int main(void)
         return 1;
     if (board_ask(table, sizeof table, entry, &state) != 0 || board_count(table, sizeof table, 2, &waiting) != 0)
         return 1;
+    /* committed: the entry and what joined it are on the store */
     printf("entry: state %" PRIu32 ", %" PRIu32 " waiting on block 2\n", state, waiting);
     return 0;
 }

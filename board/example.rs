@@ -41,13 +41,14 @@ fn session(radio: &mut Radio) -> Result<(), u32> {
     board::open(&mut radio.table, 1)?;
     let name = radio.change(1, 0, b"KRTL", &[]);
     let entry = radio.change(2, 0, b"\x01", &[name]);
+    radio.change(2, 1, b"\x63", &[]); // the preset's key: joins the entry, and has its number
     radio.flush(2); // 13: the entry follows the name, which has not landed
     radio.flush(1);
     radio.flush(2); // 13 still: the name is only in flight
     board::complete(&mut radio.table, 1)?; // the driver says that block 1 has landed
     radio.flush(2);
     board::complete(&mut radio.table, 2)?;
-    let state = board::ask(&radio.table, entry)? as u32 + 1;
+    let state = board::ask(&radio.table, entry)? as u32 + 1; // committed: the entry and what joined it are on the store
     let waiting = board::count(&radio.table, 2)?;
     println!("entry: state {state}, {waiting} waiting on block 2");
     Ok(())

@@ -1,6 +1,6 @@
 /* The same six calls as a shop would write them in C: masks, arrays, the table read from its bytes and written back, no proofs.
  * It has the functions of board.h, and serve.c linked with it in the archive's place is what the library is measured against;
- * `compare plain` holds it to the second model. */
+ * `compare quick --plain` holds it to the second model. It knows the board's setting alone. */
 #include <string.h>
 
 #include "../board/board.h"
@@ -168,7 +168,7 @@ uint32_t board_open(uint8_t *table, size_t table_len, uint32_t first)
     return refused ? 15 : 0;
 }
 
-/* The refusals of create before 9. */
+/* The refusals of create before 8. */
 static uint32_t judge_create(struct table *t, uint32_t block, uint32_t offset, size_t len, const uint32_t *named, size_t named_len)
 {
     if (!sound(t))
@@ -184,21 +184,34 @@ static uint32_t judge_create(struct table *t, uint32_t block, uint32_t offset, s
     for (size_t i = 0; i < named_len; i++)
         if (!issued(t, named[i]))
             return 7;
-    return t->next > LAST_NUMBER ? 8 : 0;
+    return 0;
 }
 
-static uint64_t befores_of(const struct table *t, const struct slot *new, const uint32_t *named, size_t named_len)
+/* Whether a slot in use has a patch of the block without old bytes. */
+static int hard_on(const struct slot *s, uint32_t block)
 {
-    uint64_t befores = 0;
-    for (uint64_t rest = used(t); rest != 0; rest &= rest - 1) {
-        const struct slot *s = &t->slots[lowest(rest)];
-        if (s->block == new->block && s->offset < new->offset + new->length && new->offset < s->offset + s->length)
-            befores |= rest & -rest;
-    }
+    return s->block == block && (s->state == WAITING_HARD || s->state == IN_FLIGHT_HARD);
+}
+
+static uint64_t named_slots(const struct table *t, const uint32_t *named, size_t named_len)
+{
+    uint64_t set = 0;
     for (size_t i = 0; i < named_len; i++) {
         unsigned slot = slot_of(t, named[i]);
         if (slot < SLOTS)
-            befores |= (uint64_t)1 << slot;
+            set |= (uint64_t)1 << slot;
+    }
+    return set;
+}
+
+static uint64_t befores_of(const struct table *t, const struct slot *new, uint64_t named)
+{
+    uint64_t befores = named;
+    for (uint64_t rest = used(t); rest != 0; rest &= rest - 1) {
+        const struct slot *s = &t->slots[lowest(rest)];
+        int overlaps = s->block == new->block && s->offset < new->offset + new->length && new->offset < s->offset + s->length;
+        if (overlaps || hard_on(s, new->block))
+            befores |= rest & -rest;
     }
     return befores;
 }
@@ -214,6 +227,45 @@ static int followed(const struct table *t, uint64_t set, uint32_t block)
     return 0;
 }
 
+static unsigned lowest_numbered(const struct table *t, uint64_t set)
+{
+    unsigned found = lowest(set);
+    for (uint64_t rest = set & (set - 1); rest != 0; rest &= rest - 1)
+        if (t->slots[lowest(rest)].number < t->slots[found].number)
+            found = lowest(rest);
+    return found;
+}
+
+static void turn_hard(struct table *t, uint64_t set)
+{
+    for (; set != 0; set &= set - 1)
+        t->slots[lowest(set)].state = WAITING_HARD;
+}
+
+/* A hard change beside waiting patches of its block goes with the lowest-numbered of them. Gives its slot. */
+static unsigned join(struct table *t, uint64_t here, uint32_t block, uint64_t named)
+{
+    unsigned joined = lowest_numbered(t, here);
+    turn_hard(t, here & t->soft);
+    t->slots[joined].befores |= named & ~on_block(t, named, block);
+    return joined;
+}
+
+/* A patch of its own. Gives its slot. */
+static unsigned add(struct table *t, struct slot new, int soft, uint64_t named, uint8_t *undo, const uint8_t *place)
+{
+    unsigned slot = lowest(~used(t));
+    new.befores = befores_of(t, &new, named);
+    if (soft) {
+        new.state = WAITING_SOFT;
+        new.room = (uint32_t)__builtin_ctz(~t->rooms);
+        memcpy(undo + ROOM_BYTES * new.room, place, new.length);
+    }
+    t->slots[slot] = new;
+    t->next++;
+    return slot;
+}
+
 uint32_t board_create(uint8_t *table, size_t table_len, uint8_t *image, size_t image_len, uint8_t *undo, size_t undo_len,
                       uint32_t block, uint32_t offset, const uint8_t *bytes, size_t bytes_len, const uint32_t *named,
                       size_t named_len, uint32_t *number, uint32_t *hold)
@@ -227,29 +279,22 @@ uint32_t board_create(uint8_t *table, size_t table_len, uint8_t *image, size_t i
     uint32_t refusal = judge_create(&t, block, offset, bytes_len, named, named_len);
     if (refusal != 0)
         return refusal;
-    if (~used(&t) == 0)
-        return 9;
     uint64_t here = on_block(&t, t.waiting, block);
-    int soft = followed(&t, here, block);
+    int soft = followed(&t, here, block), joins = !soft && here != 0;
+    if (!joins && t.next > LAST_NUMBER)
+        return 8;
+    if (!joins && ~used(&t) == 0)
+        return 9;
     if (soft && t.rooms == 0xFFFFu)
         return 10;
     struct slot new = {WAITING_HARD, 0, t.next, block, offset, (uint32_t)bytes_len, 0};
-    new.befores = befores_of(&t, &new, named, named_len);
+    uint64_t before = named_slots(&t, named, named_len);
     uint8_t *place = image + BOARD_BLOCK * block + offset;
-    if (soft) {
-        new.state = WAITING_SOFT;
-        new.room = (uint32_t)__builtin_ctz(~t.rooms);
-        memcpy(undo + ROOM_BYTES * new.room, place, bytes_len);
-    } else {
-        for (uint64_t rest = here & t.soft; rest != 0; rest &= rest - 1)
-            t.slots[lowest(rest)].state = WAITING_HARD;
-    }
+    const struct slot *has = &t.slots[joins ? join(&t, here, block, before) : add(&t, new, soft, before, undo, place)];
     memcpy(place, bytes, bytes_len);
-    t.slots[lowest(~used(&t))] = new;
-    t.next++;
     write_table(&t, table);
-    *number = new.number;
-    *hold = soft ? 2 + new.room : 1;
+    *number = has->number;
+    *hold = soft ? 2 + has->room : 1;
     return 0;
 }
 

@@ -46,7 +46,7 @@ fn name_of(kind: Kind) -> String {
 /// Every call of the orders, and what is to be done after it.
 fn play_all(library: &dyn Library, orders: &[Order], mut after: impl FnMut(Kind)) {
     for order in orders {
-        let mut lent = Lent::filled(&order.table, order.fill);
+        let mut lent = Lent::filled(library.setting(), &order.table, order.fill);
         for step in &order.steps {
             play(library, &mut lent, &step.call);
             after(step.kind());

@@ -4,19 +4,21 @@
 
 mod bench;
 mod cases;
+mod gain;
 mod judge;
 mod library;
 mod model;
 mod orders;
 mod words;
 
-use cases::{fixed, pasted, sweep, twoways, wrong};
+use cases::{fixed, paper, pasted, sweep, twoways, wrong};
 use judge::drive::{Driver, Failed};
 use judge::run::Pair;
 use judge::{run, shrink};
 use library::mock::Mock;
 use library::through::{self, Through};
-use model::rules::Right;
+use model::rules::{Right, Under};
+use model::setting::Setting;
 
 use std::process::ExitCode;
 use std::time::{Duration, Instant};
@@ -83,6 +85,9 @@ fn perform(command: Command, way: Through) -> Result<bool, String> {
         Command::One { seed } => one(pair(&*under_test()?), seed),
         Command::Pasted => pasted_orders(pair(&*under_test()?)),
         Command::Wrong { show } => wrong::run(show),
+        Command::Paper => paper::print(pair(&*under_test()?)),
+        Command::Gain { most } => gain::print(&*under_test()?, most),
+        Command::Settings { calls } => settings(calls),
         Command::Once { orders } => bench::once(&*through::library(way)?.1, orders),
         Command::Bench => bench::run().map(|()| true)?,
     })
@@ -94,12 +99,23 @@ fn quick(pair: Pair, way: Through) -> bool {
     twoways::agree(QUICK_SEED) && all_cases(pair, QUICK_SEED, calls, 0)
 }
 
+/// The model alone, with cuts, under the two settings that are not the board's and that no library has.
+fn settings(calls: u64) -> bool {
+    [Setting::AllSoft, Setting::HardRule].into_iter().all(|setting| {
+        println!("the model alone, {setting:?}: no joining, {} rooms", setting.rooms());
+        let model = Mock(Under(setting));
+        let mut driver = Driver::new(Pair { library: &model, model: Some(&model) });
+        orders(&mut driver, QUICK_SEED, calls) && reached(&driver, calls >= words::SETTING_CALLS)
+    })
+}
+
 /// The fixed cases, the sweep over tables, and orders for at least so many calls. What is on the list and was not reached fails the
 /// run if it had this many calls.
 fn all_cases(pair: Pair, seed: u64, calls: u64, enough: u64) -> bool {
     let mut driver = Driver::new(pair);
     for (run, what) in [
-        (fixed::run(pair, &mut driver.cover), "fixed cases: rows as document 01 has them"),
+        (fixed::run(pair, &mut driver.cover), "fixed cases: rows as document 01 and request a have them"),
+        (paper::run(pair, &mut driver.cover), "the source paper's figures 3 and 2b, with its numbers"),
         (
             sweep::run(pair, &mut driver.cover),
             "tables: broken in every way in every slot, and at every bound",
@@ -144,8 +160,9 @@ fn orders(driver: &mut Driver, seed: u64, calls: u64) -> bool {
 
 /// Prints what was reached; false when something was not, though there were calls enough for it.
 fn reached(driver: &Driver, enough: bool) -> bool {
-    driver.cover.print();
-    let missing = driver.cover.missing();
+    let setting = driver.pair.library.setting();
+    driver.cover.print(setting);
+    let missing = driver.cover.missing(setting);
     for name in &missing {
         println!("NOT REACHED: {name}");
     }
@@ -203,6 +220,7 @@ mod tests {
         let pair = Pair { library, model: Some(&Mock(Right)) };
         let mut cover = Cover::default();
         assert_eq!(fixed::run(pair, &mut cover).map_err(|(_, what)| what).err(), None);
+        assert_eq!(paper::run(pair, &mut cover).map_err(|(_, what)| what).err(), None);
         assert_eq!(sweep::run(pair, &mut cover).map_err(|(_, what)| what).err(), None);
     }
 
@@ -216,6 +234,11 @@ mod tests {
         let (_, plain) = through::library(Through::Plain).expect("the plain program");
         cases_pass(&*plain);
         assert!(quick(Pair { library: &*plain, model: Some(&Mock(Right)) }, Through::Plain));
+    }
+
+    #[test]
+    fn the_other_settings() {
+        assert!(settings(words::SETTING_CALLS));
     }
 
     #[test]

@@ -1,43 +1,45 @@
-//! The rows and edges of document 01 with their exact numbers. Each row is run on the library,
-//! checked against what the document says, and compared with the model like any other call.
+//! The rows and edges of document 01 with their exact numbers, as request a has them, and that request's own examples. Each row is
+//! run on the library, checked against what the documents say, and compared with the model like any other call.
 
 use crate::judge::cover::Cover;
 use crate::judge::run::{Failure, Order, Pair, Run};
 use crate::judge::shrink::{line, said};
-use crate::model::bytes::{TABLE_BYTES, decode, encoded};
+use crate::model::bytes::{TABLE_BYTES, encoded};
+use crate::model::setting::Setting;
 use crate::model::table::{LAST_NUMBER, Slot, Slots, State, Table};
 use crate::orders::steps::*;
 
-/// What a row must answer, hand out and leave in a slot.
+/// What a row must answer, hand out and leave in a slot: a state, and befores.
 #[derive(Clone, Default)]
 pub struct Want {
     answer: Answer,
     handed: Option<Vec<u8>>,
     slot: Option<(usize, State)>,
+    befores: Option<(usize, Slots)>,
 }
 
-type Row = (&'static str, Step, Want);
+pub type Row = (&'static str, Step, Want);
 
 /// Rows on a table, and what the case is called.
-struct Case {
-    name: &'static str,
-    table: Option<Table>,
-    rows: Vec<Row>,
+pub struct Case {
+    pub name: &'static str,
+    pub table: Option<Table>,
+    pub rows: Vec<Row>,
 }
 
-fn granted() -> Want {
+pub fn granted() -> Want {
     Want::default()
 }
 
-fn refused(refusal: u32) -> Want {
+pub fn refused(refusal: u32) -> Want {
     Want { answer: Answer { refusal, ..Answer::default() }, ..Want::default() }
 }
 
-fn hard(number: u32) -> Want {
+pub fn hard(number: u32) -> Want {
     Want { answer: Answer { number, hold: 1, ..Answer::default() }, ..Want::default() }
 }
 
-fn soft(number: u32, room: u32) -> Want {
+pub fn soft(number: u32, room: u32) -> Want {
     Want { answer: Answer { number, hold: 2 + room, ..Answer::default() }, ..Want::default() }
 }
 
@@ -50,16 +52,21 @@ fn counts(count: u32) -> Want {
 }
 
 /// Slots sent, and the block handed out as runs of (how many, which byte), then zeros.
-fn sends(slots: &[u32], runs: &[(usize, u8)]) -> Want {
+pub fn sends(slots: &[u32], runs: &[(usize, u8)]) -> Want {
     let set = slots.iter().map(|slot| 1u64 << slot).sum();
     let mut handed: Vec<u8> = runs.iter().flat_map(|&(count, byte)| vec![byte; count]).collect();
     handed.resize(256, 0);
-    Want { answer: Answer { set, ..Answer::default() }, handed: Some(handed), slot: None }
+    Want { answer: Answer { set, ..Answer::default() }, handed: Some(handed), ..Want::default() }
 }
 
 impl Want {
-    fn leaving(mut self, slot: usize, state: State) -> Want {
+    pub fn leaving(mut self, slot: usize, state: State) -> Want {
         self.slot = Some((slot, state));
+        self
+    }
+
+    pub fn following(mut self, slot: usize, befores: &[usize]) -> Want {
+        self.befores = Some((slot, befores.iter().copied().collect()));
         self
     }
 }
@@ -69,8 +76,8 @@ fn up_to_p6() -> Vec<Row> {
         ("open", open(1), granted()),
         ("P1", create(1, 0, &[65; 8], &[]), hard(1)),
         ("P2", create(2, 0, &[1; 2], &[1]), hard(2)),
-        ("P3", create(2, 2, &[2; 2], &[]), hard(3)),
-        ("P4", create(1, 8, &[66; 8], &[3]), soft(4, 0).leaving(3, State::WaitingSoft { room: 0 })),
+        ("P3 joins 2", create(2, 2, &[2; 2], &[]), hard(2).following(1, &[0])),
+        ("P4", create(1, 8, &[66; 8], &[2]), soft(3, 0).leaving(2, State::WaitingSoft { room: 0 })),
         ("P5", write(2), refused(13)),
         ("P6", write(1), sends(&[0], &[(8, 65)]).leaving(0, State::InFlightHard)),
     ]
@@ -81,10 +88,10 @@ fn two_pages() -> Vec<Row> {
     rows.extend([
         ("P7", write(1), refused(11)),
         ("P8 complete", complete(1), granted().leaving(0, State::Free)),
-        ("P8 write", write(2), sends(&[1, 2], &[(2, 1), (2, 2)])),
+        ("P8 write", write(2), sends(&[1], &[(2, 1), (2, 2)])),
         ("P9", write(1), refused(13)),
         ("P10 complete", complete(2), granted()),
-        ("P10 write", write(1), sends(&[3], &[(8, 65), (8, 66)]).leaving(3, State::InFlightSoft)),
+        ("P10 write", write(1), sends(&[2], &[(8, 65), (8, 66)]).leaving(2, State::InFlightSoft)),
     ]);
     rows
 }
@@ -92,14 +99,19 @@ fn two_pages() -> Vec<Row> {
 fn branch_after_p6() -> Vec<Row> {
     let mut rows = up_to_p6();
     rows.extend([
-        ("branch: 5 is hard, 4 turns hard", create(1, 0, &[67], &[]), hard(5).leaving(3, State::WaitingHard)),
+        (
+            "branch: joins 3, which turns hard",
+            create(1, 0, &[67], &[]),
+            hard(3).leaving(2, State::WaitingHard),
+        ),
+        ("branch: 3 follows 1 and 2 as before", count(1), counts(1).following(2, &[0, 1])),
         ("branch: in flight still", write(1), refused(11)),
-        ("branch: complete 1", complete(1), granted()),
-        ("branch: 13 while 3 waits", write(1), refused(13)),
-        ("branch: 2 and 3 go", write(2), sends(&[1, 2], &[(2, 1), (2, 2)])),
-        ("branch: 13 while 3 is in flight", write(1), refused(13)),
-        ("branch: 3 commits", complete(2), granted()),
-        ("branch: 4 and 5 go", write(1), sends(&[3, 4], &[(1, 67), (7, 65), (8, 66)])),
+        ("branch: complete 1", complete(1), granted().following(2, &[1])),
+        ("branch: 13 while 2 waits", write(1), refused(13)),
+        ("branch: 2 goes", write(2), sends(&[1], &[(2, 1), (2, 2)])),
+        ("branch: 13 while 2 is in flight", write(1), refused(13)),
+        ("branch: 2 commits", complete(2), granted()),
+        ("branch: 3 goes, with both changes", write(1), sends(&[2], &[(1, 67), (7, 65), (8, 66)])),
     ]);
     rows
 }
@@ -109,22 +121,24 @@ fn edges_of_create() -> Vec<Row> {
         ("open", open(1), granted()),
         ("length 64 at 192", create(0, 192, &[7; 64], &[]), hard(1)),
         ("length 64 at 193", create(0, 193, &[7; 64], &[]), refused(5)),
-        ("1 byte at 255", create(0, 255, &[7], &[]), hard(2)),
+        ("1 byte at 255", create(0, 255, &[7], &[]), hard(1)),
         ("1 byte at 256", create(0, 256, &[7], &[]), refused(5)),
         ("1 byte at 4,294,967,295", create(0, u32::MAX, &[7], &[]), refused(5)),
         ("64 bytes at 4,294,967,232", create(0, u32::MAX - 63, &[7; 64], &[]), refused(5)),
         ("length 0", create(0, 0, &[], &[]), refused(4)),
         ("length 65", create(0, 0, &[7; 65], &[]), refused(4)),
-        ("8 numbers", create(0, 0, &[7], &[1, 2, 1, 2, 1, 2, 1, 2]), hard(3)),
+        ("8 numbers", create(0, 0, &[7], &[1; 8]), hard(1)),
         ("9 numbers", create(0, 0, &[7], &[1; 9]), refused(6)),
         ("264 numbers", create(0, 0, &[7], &[1; 264]), refused(6)),
         ("65,544 numbers", create(0, 0, &[7], &[1; 65_544]), refused(6)),
         ("length 257", create(0, 0, &[7; 257], &[]), refused(4)),
         ("length 65,537", create(0, 0, &[7; 65_537], &[]), refused(4)),
         ("9 numbers, one never issued", create(0, 0, &[7], &[9; 9]), refused(6)),
-        ("its own coming number", create(0, 0, &[7], &[4]), refused(7)),
+        ("8 numbers, on another block", create(1, 0, &[7], &[1; 8]), hard(2)),
+        ("its own coming number", create(2, 0, &[7], &[3]), refused(7)),
+        ("the coming number, though it would join", create(1, 0, &[7], &[3]), refused(7)),
         ("number 0", create(0, 0, &[7], &[0]), refused(7)),
-        ("block 63", create(63, 255, &[7], &[]), hard(4)),
+        ("block 63", create(63, 255, &[7], &[]), hard(3)),
         ("block 64", create(64, 0, &[7], &[]), refused(3)),
         ("image short", create(0, 0, &[7], &[]).lending(Buffer::Image, 16_383), refused(1)),
         ("undo area long", create(0, 0, &[7], &[]).lending(Buffer::Undo, 1_025), refused(1)),
@@ -142,25 +156,167 @@ fn edges_of_open() -> Vec<Row> {
         ("open a short table", open(0).lending(Buffer::Table, 2_055), refused(2)),
         ("open 1,000,000,000", open(1_000_000_000), granted()),
         ("one create is granted", create(0, 0, &[7], &[]), hard(1_000_000_000)),
-        ("the next is 8", create(0, 0, &[7], &[]), refused(8)),
-        ("7 comes before 8", create(0, 0, &[7], &[1_000_000_001]), refused(7)),
+        ("the next is 8, on another block", create(1, 0, &[7], &[]), refused(8)),
+        ("on this one it joins", create(0, 1, &[8], &[]), hard(1_000_000_000)),
+        ("and again, with a name", create(0, 2, &[9], &[1_000_000_000]), hard(1_000_000_000)),
+        ("7 comes before 8", create(1, 0, &[7], &[1_000_000_001]), refused(7)),
+        ("7 also where it would join", create(0, 0, &[7], &[1_000_000_001]), refused(7)),
         ("the last number waits", ask(1_000_000_000), state(1)),
-        ("it goes", write(0), sends(&[0], &[(1, 7)])),
+        ("it goes", write(0), sends(&[0], &[(1, 7), (1, 8), (1, 9)])),
         ("it is in flight", ask(1_000_000_000), state(2)),
+        ("one in flight is not joined", create(0, 0, &[7], &[]), refused(8)),
         ("it commits", complete(0), granted()),
         ("it has committed", ask(1_000_000_000), state(3)),
         ("still 8", create(0, 0, &[7], &[1_000_000_000]), refused(8)),
     ]
 }
 
+/// At the last number a creation joins or is refused 8: a soft one does not join.
+fn last_number() -> Vec<Row> {
+    vec![
+        ("open", open(999_999_999), granted()),
+        ("one on block 1", create(1, 0, &[1], &[]), hard(999_999_999)),
+        ("one on block 2 names it", create(2, 0, &[2], &[999_999_999]), hard(1_000_000_000)),
+        ("it would be soft: 8", create(1, 1, &[3], &[]), refused(8)),
+        ("on block 2 it joins", create(2, 1, &[4], &[1_000_000_000, 999_999_999]), hard(1_000_000_000)),
+        ("block 1 goes", write(1), sends(&[0], &[(1, 1)])),
+        ("nothing waits there: 8", create(1, 1, &[3], &[]), refused(8)),
+    ]
+}
+
+/// Sixty-four creates on block 0 use one slot, and so do the next thousand.
+fn one_slot() -> Vec<Row> {
+    let mut rows = vec![("open", open(1), granted())];
+    for change in 0..1_064u32 {
+        let name = if change < 64 { "one of 64" } else { "one of the next thousand" };
+        rows.push((name, create(0, change % 250, &[change as u8; 3], &[]), hard(1)));
+    }
+    rows.push(("one patch waits", count(0), counts(1).following(0, &[])));
+    rows.push(("the next number", create(1, 0, &[1], &[]), hard(2).leaving(1, State::WaitingHard)));
+    rows
+}
+
+/// A patch on each block. With the table full a creation joins or is refused 9.
 fn full_slots() -> Vec<Row> {
     let mut rows = vec![("open", open(1), granted())];
-    for number in 1..=64 {
-        rows.push(("one of 64", create(0, 0, &[number as u8], &[]), hard(number)));
+    for block in 0..64 {
+        rows.push(("one of 64", create(block, 0, &[block as u8], &[]), hard(1 + block)));
     }
-    rows.push(("the sixty-fifth", create(0, 0, &[65], &[]), refused(9)));
-    rows.push(("count", count(0), counts(64)));
+    rows.extend([
+        ("a join into the full table", create(7, 3, &[9; 2], &[]), hard(8)),
+        ("block 5 goes", write(5), sends(&[5], &[(1, 5)])),
+        ("no slot, and 6 in flight is not joined", create(5, 0, &[1], &[]), refused(9)),
+        ("a join that names 10", create(8, 1, &[2], &[10]), hard(9).following(8, &[9])),
+        ("soft on 10's block now: it does not join", create(9, 1, &[3], &[]), refused(9)),
+        ("block 5 lands", complete(5), granted()),
+        ("a slot is free", create(5, 1, &[4], &[]), hard(65).leaving(5, State::WaitingHard)),
+        ("block 7 goes with both changes", write(7), sends(&[7], &[(1, 7), (2, 0), (2, 9)])),
+    ]);
     rows
+}
+
+/// Befores on other blocks come to the joined patch, waiting or in flight; the patches of those blocks are soft from then on.
+fn join_adds_befores() -> Vec<Row> {
+    vec![
+        ("open", open(1), granted()),
+        ("1 on block 1", create(1, 0, &[10; 4], &[]), hard(1)),
+        ("2 on block 2", create(2, 0, &[20; 4], &[]), hard(2)),
+        ("3 on block 3", create(3, 0, &[30; 4], &[]), hard(3)),
+        ("3 goes", write(3), sends(&[2], &[(4, 30)])),
+        ("joins 1, after 2 and 3", create(1, 8, &[11; 2], &[2, 3, 2]), hard(1).following(0, &[1, 2])),
+        ("once more after 2", create(1, 9, &[12; 2], &[2]), hard(1).following(0, &[1, 2])),
+        ("1 follows 2 and 3", write(1), refused(13)),
+        ("soft: 1 follows 2", create(2, 8, &[21], &[]), soft(4, 0).following(3, &[1])),
+        ("2 and 4 go", write(2), sends(&[1, 3], &[(4, 20), (4, 0), (1, 21)])),
+        ("complete block 2", complete(2), granted().following(0, &[2])),
+        ("13 while 3 is in flight", write(1), refused(13)),
+        ("complete block 3", complete(3), granted().following(0, &[])),
+        ("1 goes with its three changes", write(1), sends(&[0], &[(4, 10), (4, 0), (1, 11), (2, 12)])),
+    ]
+}
+
+/// A patch in flight is not joined, and names of the change's own block bring nothing.
+fn join_names_its_block() -> Vec<Row> {
+    vec![
+        ("open", open(1), granted()),
+        ("1 on block 1", create(1, 0, &[10; 4], &[]), hard(1)),
+        ("1 goes", write(1), sends(&[0], &[(4, 10)])),
+        ("1 in flight is not joined, but followed", create(1, 8, &[20; 4], &[]), hard(2).following(1, &[0])),
+        ("1 has landed", complete(1), granted().following(1, &[])),
+        ("2 goes", write(1), sends(&[1], &[(4, 10), (4, 0), (4, 20)])),
+        ("3 after 2 in flight", create(1, 16, &[30; 2], &[]), hard(3).following(0, &[1])),
+        ("4 on block 2 after 3", create(2, 0, &[40], &[3]), hard(4)),
+        ("5 on block 1 after 4 is soft", create(1, 20, &[50], &[4]), soft(5, 0).following(3, &[0, 1, 2])),
+        ("2 has landed", complete(1), granted().following(3, &[0, 2])),
+        ("3 goes", write(1), sends(&[0], &[(4, 10), (4, 0), (4, 20), (4, 0), (2, 30)])),
+        ("joins 5, names 3 and 5", create(1, 30, &[51], &[3, 5]), hard(5).following(3, &[0, 2])),
+        ("joins 5, names 3 in flight", create(1, 31, &[52], &[3]), hard(5).following(3, &[0, 2])),
+        ("3 has landed", complete(1), granted().following(3, &[2])),
+        ("joins 5, names 5 alone", create(1, 32, &[53], &[5]), hard(5).following(3, &[2])),
+    ]
+}
+
+/// Soft patches that turned hard are joined: the lowest number of them answers, their rooms are free again.
+fn join_after_turning() -> Vec<Row> {
+    vec![
+        ("open", open(1), granted()),
+        ("1 on block 1", create(1, 0, &[10; 4], &[]), hard(1)),
+        ("2 on block 2 after 1", create(2, 0, &[20; 4], &[1]), hard(2)),
+        ("3 on block 1 after 2", create(1, 8, &[30], &[2]), soft(3, 0)),
+        ("4 on block 1 after 2", create(1, 12, &[40], &[2]), soft(4, 1)),
+        ("1 goes alone", write(1), sends(&[0], &[(4, 10)])),
+        ("1 has landed", complete(1), granted()),
+        ("joins 3", create(1, 16, &[50], &[]), hard(3).leaving(2, State::WaitingHard)),
+        ("4 has turned too", count(1), counts(2).leaving(3, State::WaitingHard)),
+        ("the answer stays 3", create(1, 17, &[51], &[4]), hard(3).following(2, &[1])),
+        ("5 on block 3 after 3", create(3, 0, &[60], &[3]), hard(5)),
+        ("room 0 is free again", create(1, 20, &[70], &[5]), soft(6, 0)),
+        ("13: 3 follows 2", write(1), refused(13)),
+        ("2 goes", write(2), sends(&[1], &[(4, 20)])),
+        ("2 has landed", complete(2), granted()),
+        (
+            "3 and 4 go with what joined, 6 stays",
+            write(1),
+            sends(&[2, 3], &[(4, 10), (4, 0), (1, 30), (3, 0), (1, 40), (3, 0), (1, 50), (1, 51)]),
+        ),
+    ]
+}
+
+/// A later soft patch that overlaps only a joined change follows the joined patch, and what is taken back is that change's bytes.
+fn over_a_joined_change() -> Vec<Row> {
+    vec![
+        ("open", open(1), granted()),
+        ("1 on block 1", create(1, 0, &[1; 4], &[]), hard(1)),
+        ("joins 1", create(1, 8, &[2; 4], &[]), hard(1)),
+        ("2 on block 2 after 1", create(2, 0, &[3], &[1]), hard(2)),
+        ("3 over the joined change is soft", create(1, 10, &[4; 4], &[]), soft(3, 0).following(2, &[0])),
+        ("4 over it too, after 2", create(1, 11, &[5; 4], &[2]), soft(4, 1).following(3, &[0, 1, 2])),
+        ("1 and 3 go", write(1), sends(&[0, 2], &[(4, 1), (4, 0), (2, 2), (4, 4)])),
+        ("joins 4, which turns hard", create(1, 40, &[6], &[]), hard(4).following(3, &[0, 1, 2])),
+    ]
+}
+
+/// Two that wait on block 1, the lower number in the higher slot and soft, and one in flight with a number below both: no order of
+/// calls leaves it.
+fn crossed() -> Table {
+    let mut table = Table { next: 9, ..Table::empty(Setting::Board, 1) };
+    let slot = |state, number| {
+        let befores = Slots::new();
+        Slot { state, number, block: 1, offset: 8 * number, length: 4, befores }
+    };
+    table.slots[0] = slot(State::WaitingHard, 7);
+    table.slots[1] = slot(State::InFlightHard, 2);
+    table.slots[2] = slot(State::WaitingSoft { room: 3 }, 5);
+    table.slots[3] = slot(State::WaitingHard, 6);
+    table
+}
+
+fn lowest_number() -> Vec<Row> {
+    vec![
+        ("the lowest that waits is joined", create(1, 0, &[1], &[]), hard(5).leaving(2, State::WaitingHard)),
+        ("and again", create(1, 1, &[2], &[7, 2, 8]), hard(5).following(2, &[])),
+        ("three wait", count(1), counts(3)),
+    ]
 }
 
 fn full_rooms() -> Vec<Row> {
@@ -250,7 +406,7 @@ fn past_sixteen_digits() -> Vec<Row> {
 /// Fifteen soft patches in a chain and a hard one at its end, which only the sixteenth round strikes, beside a soft one that follows
 /// nothing: no order of calls leaves it.
 fn late_hard_one() -> Table {
-    let mut table = Table { next: 20, ..Table::empty(1) };
+    let mut table = Table { next: 20, ..Table::empty(Setting::Board, 1) };
     let slot = |i: usize| {
         let state = if i == 15 { State::WaitingHard } else { State::WaitingSoft { room: i as u32 } };
         let (number, befores) = (1 + i as u32, Slots::from([if i == 0 { 16 } else { i - 1 }]));
@@ -270,12 +426,13 @@ fn far_numbers() -> Vec<Row> {
         ("65,537 numbers ago", ask(999_934_464), state(3)),
         ("the last number issued", ask(1_000_000_000), state(1)),
         ("the one after it", ask(1_000_000_001), refused(7)),
-        ("a committed one named", create(1, 0, &[1], &[2]), refused(8)),
+        ("a committed one named", create(2, 0, &[1], &[2]), refused(8)),
+        ("and by one that joins", create(1, 0, &[1], &[2]), hard(1_000_000_000)),
     ]
 }
 
 fn all_issued() -> Table {
-    let mut table = Table { next: LAST_NUMBER + 1, ..Table::empty(1) };
+    let mut table = Table { next: LAST_NUMBER + 1, ..Table::empty(Setting::Board, 1) };
     let befores = Slots::new();
     table.slots[3] =
         Slot { state: State::WaitingHard, number: LAST_NUMBER, block: 1, offset: 0, length: 1, befores };
@@ -292,7 +449,14 @@ fn all() -> Vec<Case> {
         case("the branch after P6", branch_after_p6()),
         case("edges of create", edges_of_create()),
         case("edges of open", edges_of_open()),
+        case("the last number", last_number()),
+        case("one slot for many changes", one_slot()),
         case("full slots", full_slots()),
+        case("a join that adds befores", join_adds_befores()),
+        case("a join that names its own block", join_names_its_block()),
+        case("a join after soft ones turned hard", join_after_turning()),
+        case("over a joined change", over_a_joined_change()),
+        on("the lowest number in a higher slot", crossed(), lowest_number()),
         case("full rooms", full_rooms()),
         case("the shortcuts", shortcuts()),
         case("sixteen taken back", sixteen_taken_back()),
@@ -305,19 +469,29 @@ fn all() -> Vec<Case> {
 
 /// Runs all fixed cases; gives how many rows were run, or what went wrong first, and at which.
 pub fn run(pair: Pair, cover: &mut Cover) -> Result<usize, (usize, String)> {
+    run_cases(pair, cover, all())
+}
+
+pub fn run_cases(pair: Pair, cover: &mut Cover, cases: Vec<Case>) -> Result<usize, (usize, String)> {
     let mut rows_run = 0;
-    for Case { name, table, rows } in all() {
-        let cuts = table.is_none();
-        let table = table.map_or(vec![0; TABLE_BYTES], |table| encoded(&table));
-        let mut run = Run::start(pair, &Order { table, cuts, ..Order::of(&[]) });
-        for (row, step, want) in rows {
-            rows_run += 1;
-            let found = |what: String| (rows_run, format!("{name}, row \"{row}\", {}: {what}", line(&step)));
-            let answer = run.step(&step, cover).map_err(|failure| found(both(&failure)))?;
-            check(&run, &answer, &want).map_err(found)?;
-        }
+    for case in cases {
+        rows_run += run_case(pair, cover, case).map_err(|(row, what)| (rows_run + row, what))?;
     }
     Ok(rows_run)
+}
+
+fn run_case(pair: Pair, cover: &mut Cover, case: Case) -> Result<usize, (usize, String)> {
+    let Case { name, table, rows } = case;
+    let cuts = table.is_none();
+    let table = table.map_or(vec![0; TABLE_BYTES], |table| encoded(&table));
+    let mut run = Run::start(pair, &Order { table, cuts, ..Order::of(&[]) });
+    let count = rows.len();
+    for (at, (row, step, want)) in rows.into_iter().enumerate() {
+        let found = |what: String| (at + 1, format!("{name}, row \"{row}\", {}: {what}", line(&step)));
+        let answer = run.step(&step, cover).map_err(|failure| found(both(&failure)))?;
+        check(&run, &answer, &want).map_err(found)?;
+    }
+    Ok(count)
 }
 
 fn both(failure: &Failure) -> String {
@@ -332,10 +506,17 @@ fn check(run: &Run, answer: &Answer, want: &Want) -> Result<(), String> {
     if want.handed.as_ref().is_some_and(|handed| *handed != run.lent.handed) {
         return Err(format!("the block handed out is {:?}", run.lent.handed));
     }
+    let slot_of = |slot: usize| run.table.as_ref().map(|table| &table.slots[slot]);
     if let Some((slot, state)) = want.slot {
-        let found = decode(&run.lent.table).map(|table| table.slots[slot].state);
+        let found = slot_of(slot).map(|slot| slot.state);
         if found != Some(state) {
             return Err(format!("slot {slot} is {found:?}, wanted {state:?}"));
+        }
+    }
+    if let Some((slot, befores)) = &want.befores {
+        let found = slot_of(*slot).map(|slot| &slot.befores);
+        if found != Some(befores) {
+            return Err(format!("slot {slot} follows {found:?}, wanted {befores:?}"));
         }
     }
     Ok(())

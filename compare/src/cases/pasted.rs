@@ -4,6 +4,7 @@
 
 use crate::judge::run::Order;
 use crate::model::bytes::{TABLE_BYTES, encoded};
+use crate::model::setting::Setting;
 use crate::model::table::{Slot, State, Table};
 use crate::orders::steps::{Buffer, ask, complete, count, create, open, write};
 
@@ -19,7 +20,7 @@ pub fn orders() -> Vec<Order> {
                 create(1, 0, &[65; 8], &[]),
                 create(2, 0, &[1; 2], &[1]),
                 create(2, 2, &[2; 2], &[]),
-                create(1, 8, &[66; 8], &[3]),
+                create(1, 8, &[66; 8], &[2]),
                 write(1),
                 create(1, 0, &[67], &[]),
                 complete(1),
@@ -47,7 +48,7 @@ pub fn orders() -> Vec<Order> {
 type Given<'a> = (usize, State, u32, u32, u32, u32, &'a [usize]);
 
 fn table(first: u32, next: u32, slots: &[Given]) -> Vec<u8> {
-    let mut table = Table { next, ..Table::empty(first) };
+    let mut table = Table { next, ..Table::empty(Setting::Board, first) };
     for &(slot, state, number, block, offset, length, befores) in slots {
         let befores = befores.iter().copied().collect();
         table.slots[slot] = Slot { state, number, block, offset, length, befores };

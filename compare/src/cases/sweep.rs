@@ -6,6 +6,7 @@ use crate::judge::run::{Order, Pair, Run};
 use crate::judge::shrink;
 use crate::model::bytes::encoded;
 use crate::model::rules::{Model, Right};
+use crate::model::setting::Setting;
 use crate::model::table::{KINDS, Kind, LAST_NUMBER, SLOTS, Slots, State, Table};
 use crate::orders::steps::{Step, ask, complete, count, create, write};
 use crate::orders::tables::{BREAKS, full};
@@ -53,7 +54,7 @@ const BOUNDS: [fn(&mut Table, usize); 12] = [
         t.slots[(i + 1) % SLOTS].state = State::WaitingSoft { room: 15 };
     },
     |t, i| {
-        *t = Table::empty(if i % 2 == 0 { 1 } else { LAST_NUMBER });
+        *t = Table::empty(Setting::Board, if i % 2 == 0 { 1 } else { LAST_NUMBER });
         t.next = LAST_NUMBER + 1;
     },
 ];

@@ -2,6 +2,7 @@
 //! the definition: it may go, and every subset that may go lies in it.
 
 use crate::model::rules::{Model, Right};
+use crate::model::setting::Setting;
 use crate::model::table::{Slots, Table};
 use crate::orders::random::Random;
 use crate::orders::tables;
@@ -14,7 +15,7 @@ pub fn agree(seed: u64) -> bool {
     let mut random = Random::new(seed);
     let mut compared = 0;
     for _ in 0..TABLES {
-        let table = tables::sound(&mut random);
+        let table = tables::sound(&mut random, Setting::Board);
         let mut blocks: Vec<u32> = table.patches().map(|(_, p)| p.block).collect();
         blocks.dedup();
         for block in blocks.into_iter().take(4) {

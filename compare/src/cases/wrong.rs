@@ -1,7 +1,7 @@
 //! Shows that the comparison can fail: models with one rule wrong each, standing in for the
 //! library. Each must be caught.
 
-use crate::cases::{fixed, sweep};
+use crate::cases::{fixed, paper, sweep};
 use crate::judge::cover::Cover;
 use crate::judge::drive::Driver;
 use crate::judge::run::Pair;
@@ -52,12 +52,12 @@ wrong!(SmallestSet: fn largest_that_may_go(&self, t: &Table, block: u32) -> Slot
 wrong!(TouchingOverlaps: fn share_a_byte(&self, p: &Slot, start: u64, end: u64) -> bool { u64::from(p.offset) <= end && start <= p.end() });
 wrong!(OverlapOnlyWaiting: fn overlaps(&self, p: &Slot, change: &Change) -> bool { p.waiting() && Right.overlaps(p, change) });
 wrong!(OverlapOnEveryBlock: fn overlaps(&self, p: &Slot, c: &Change) -> bool { Right.overlaps(&Slot { block: c.block, ..p.clone() }, c) });
-wrong!(NamesOnlyWaiting: fn befores(&self, t: &Table, change: &Change) -> Slots {
-    Right.befores(t, change).into_iter().filter(|&i| t.slots[i].waiting() || Right.overlaps(&t.slots[i], change)).collect()
+wrong!(NamesOnlyWaiting: fn named(&self, t: &Table, change: &Change) -> Slots {
+    Right.named(t, change).into_iter().filter(|&i| t.slots[i].waiting()).collect()
 });
 wrong!(SlotsFromOne: fn lowest_free_slot(&self, t: &Table) -> Option<usize> { (1..SLOTS).find(|&i| !t.slots[i].used()) });
 wrong!(HighestSlot: fn lowest_free_slot(&self, t: &Table) -> Option<usize> { (0..SLOTS).rev().find(|&i| !t.slots[i].used()) });
-wrong!(FifteenRooms: fn lowest_free_room(&self, t: &Table) -> Option<u32> { (0..ROOMS - 1).find(|r| !t.rooms_taken().contains(r)) });
+wrong!(FifteenRooms: fn lowest_free_room(&self, t: &Table) -> Option<u32> { (0..t.setting.rooms() - 1).find(|r| !t.rooms_taken().contains(r)) });
 wrong!(SoftStaysSoft: fn turn_waiting_soft_hard(&self, _: &mut Table, _: u32) {});
 wrong!(TurnsEveryBlock: fn turn_waiting_soft_hard(&self, t: &mut Table, _: u32) { (0..64).for_each(|b| Right.turn_waiting_soft_hard(t, b)) });
 wrong!(AlwaysHard: fn would_be_hard(&self, _: &Table, _: u32) -> bool { true });
@@ -103,7 +103,7 @@ wrong!(AlwaysNumberOne: fn create(&self, t: &mut Table, i: &mut [u8], u: &mut [u
 wrong!(TouchesNothing: fn create(&self, t: &mut Table, i: &mut [u8], u: &mut [u8], c: &Change) -> Result<(u32, State), Refusal> {
     Right.create(&mut t.clone(), &mut i.to_vec(), &mut u.to_vec(), c)
 });
-wrong!(OpenKeepsFirst: fn open(&self, first: u32) -> (Result<(), Refusal>, Table) { (Right.open(first).0, Table::empty(first)) });
+wrong!(OpenKeepsFirst: fn open(&self, first: u32) -> (Result<(), Refusal>, Table) { (Right.open(first).0, Table::empty(self.setting(), first)) });
 wrong!(RefusesEverything: fn judge(&self, kind: Kind, t: &Table, asked: &Asked) -> Result<(), Refusal> {
     Right.judge(kind, t, asked)?;
     self.tests(kind).pop().map_or(Ok(()), Err)
@@ -177,6 +177,115 @@ wrong!(TurnsOnlyTheLowest: fn turn_waiting_soft_hard(&self, t: &mut Table, block
 wrong!(ForgetsTheLowestOnly: fn forget_committed(&self, p: &mut Slot, committed: &Slots) {
     committed.first().map(|lowest| p.befores.remove(lowest));
 });
+
+// ---- Joining ----
+
+wrong!(JoinsTheHighest: fn joined(&self, t: &Table, block: u32) -> Option<usize> {
+    Right.joined(t, block).and_then(|_| t.waiting(block).into_iter().max_by_key(|&i| t.slots[i].number))
+});
+wrong!(JoinsTheLowestSlot: fn joined(&self, t: &Table, block: u32) -> Option<usize> {
+    Right.joined(t, block).and_then(|_| t.waiting(block).first().copied())
+});
+wrong!(JoinsInFlight: fn joined(&self, t: &Table, block: u32) -> Option<usize> {
+    let flying = t.in_flight(block).into_iter().filter(|_| self.would_be_hard(t, block)).min_by_key(|&i| t.slots[i].number);
+    Right.joined(t, block).or(flying)
+});
+wrong!(SoftJoins: fn joined(&self, t: &Table, block: u32) -> Option<usize> {
+    t.waiting(block).into_iter().min_by_key(|&i| t.slots[i].number)
+});
+wrong!(JoinsOnlyTheHard: fn joined(&self, t: &Table, block: u32) -> Option<usize> {
+    let hard = t.hard_waiting(block);
+    Right.joined(t, block).and_then(|_| hard.into_iter().min_by_key(|&i| t.slots[i].number))
+});
+wrong!(NeverJoins: fn joined(&self, _: &Table, _: u32) -> Option<usize> { None });
+wrong!(RangeGrows: fn join(&self, t: &mut Table, slot: usize, c: &Change) {
+    Right.join(t, slot, c);
+    let patch = &mut t.slots[slot];
+    let (start, end) = (patch.offset.min(c.offset), patch.end().max(u64::from(c.offset) + c.data.len() as u64));
+    (patch.offset, patch.length) = (start, (end as u32 - start).min(LONGEST_DATA as u32));
+});
+wrong!(NextGrows: fn join(&self, t: &mut Table, slot: usize, c: &Change) {
+    Right.join(t, slot, c);
+    t.next += u32::from(t.next <= LAST_NUMBER);
+});
+wrong!(OnlyTheJoinedTurns: fn join(&self, t: &mut Table, slot: usize, c: &Change) {
+    let gained = self.gained(t, c);
+    t.slots[slot].state = State::WaitingHard;
+    t.slots[slot].befores.extend(gained);
+});
+wrong!(GainsItsOwnBlock: fn join(&self, t: &mut Table, slot: usize, c: &Change) {
+    let named = self.named(t, c);
+    Right.join(t, slot, c);
+    t.slots[slot].befores.extend(named.into_iter().filter(|&i| i != slot));
+});
+wrong!(GainsInFlightHere: fn gained(&self, t: &Table, c: &Change) -> Slots {
+    Right.named(t, c).into_iter().filter(|&i| t.slots[i].block != c.block || t.slots[i].in_flight()).collect()
+});
+wrong!(GainsHardHere: fn gained(&self, t: &Table, c: &Change) -> Slots {
+    let flying = t.in_flight(c.block).into_iter().filter(|&i| t.slots[i].hard());
+    Right.gained(t, c).into_iter().chain(flying).collect()
+});
+wrong!(GainsNothing: fn gained(&self, _: &Table, _: &Change) -> Slots { Slots::new() });
+wrong!(GainsOnlyWaiting: fn gained(&self, t: &Table, c: &Change) -> Slots {
+    Right.gained(t, c).into_iter().filter(|&i| t.slots[i].waiting()).collect()
+});
+wrong!(GainsOneOnly: fn gained(&self, t: &Table, c: &Change) -> Slots { Right.gained(t, c).into_iter().take(1).collect() });
+wrong!(GainedReplace: fn join(&self, t: &mut Table, slot: usize, c: &Change) {
+    let gained = self.gained(t, c);
+    Right.join(t, slot, c);
+    t.slots[slot].befores = gained;
+});
+wrong!(FollowsOnlyOverlapped: fn hard_ones(&self, _: &Table, _: u32) -> Slots { Slots::new() });
+wrong!(FollowsOnlyWaitingHard: fn hard_ones(&self, t: &Table, block: u32) -> Slots { t.hard_waiting(block) });
+wrong!(FollowsOnlyHardInFlight: fn hard_ones(&self, t: &Table, block: u32) -> Slots {
+    t.in_flight(block).into_iter().filter(|&i| t.slots[i].hard()).collect()
+});
+wrong!(FollowsAllOfItsBlock: fn hard_ones(&self, t: &Table, block: u32) -> Slots {
+    t.waiting(block).union(&t.in_flight(block)).copied().collect()
+});
+wrong!(JoinWritesUndo: fn create(&self, t: &mut Table, i: &mut [u8], u: &mut [u8], c: &Change) -> Result<(u32, State), Refusal> {
+    let (joined, old) = (Right.joined(t, c.block), i.to_vec());
+    let answer = Right.create(t, i, u, c)?;
+    if let (Some(_), Some(room)) = (joined, self.lowest_free_room(t)) {
+        self.keep_old_bytes(u, room, &old[256 * c.block as usize + c.offset as usize..][..c.data.len()]);
+    }
+    Ok(answer)
+});
+wrong!(JoinedDataLost: fn create(&self, t: &mut Table, i: &mut [u8], u: &mut [u8], c: &Change) -> Result<(u32, State), Refusal> {
+    let joined = Right.joined(t, c.block).is_some();
+    let mut kept = i.to_vec();
+    Right.create(t, if joined { &mut kept } else { i }, u, c)
+});
+wrong!(JoinAnswersNext: fn create(&self, t: &mut Table, i: &mut [u8], u: &mut [u8], c: &Change) -> Result<(u32, State), Refusal> {
+    let joined = Right.joined(t, c.block).is_some();
+    Right.create(t, i, u, c).map(|(number, state)| (if joined { t.next } else { number }, state))
+});
+
+/// Gives a refusal also to a creation that joins: the table alone is asked.
+struct RefusesJoins(Refusal);
+
+impl Model for RefusesJoins {
+    fn holds(&self, refusal: Refusal, table: &Table, asked: &Asked) -> bool {
+        let full = match refusal {
+            _ if refusal != self.0 => false,
+            Refusal::NoNumberLeft => table.next > LAST_NUMBER,
+            _ => table.patches().count() == SLOTS,
+        };
+        full || Right.holds(refusal, table, asked)
+    }
+}
+
+/// Takes every creation on a block with a waiting patch for one that joins, as far as a refusal goes. A soft one has then no number or
+/// slot to take, and answers 10.
+struct SpareOfSoft(Refusal);
+
+impl Model for SpareOfSoft {
+    fn holds(&self, refusal: Refusal, table: &Table, asked: &Asked) -> bool {
+        let spared = refusal == self.0 && !table.waiting(asked.block).is_empty();
+        (!spared && Right.holds(refusal, table, asked))
+            || (refusal == Refusal::NoFreeRoom && Right.holds(self.0, table, asked))
+    }
+}
 
 fn low_byte_of_room(slot: &mut Slot) {
     if let State::WaitingSoft { room } = &mut slot.state {
@@ -298,10 +407,45 @@ fn entries() -> Vec<Entry> {
         entry("only the lowest committed is forgotten", ForgetsTheLowestOnly, false),
         entry("open refused keeps the first given", OpenKeepsFirst, false),
     ];
+    entries.extend(joining());
     for clause in CLAUSES {
         entries.push(entry(&format!("soundness without {clause:?}"), Forgets(clause), false));
     }
     entries
+}
+
+/// A soft creation that joins, or a hard one that does not, breaks no cut: the one may leave patches that never go, the other takes a
+/// slot more.
+fn joining() -> Vec<Entry> {
+    vec![
+        entry("joins the highest-numbered", JoinsTheHighest, true),
+        entry("joins the one in the lowest slot", JoinsTheLowestSlot, true),
+        entry("joins a patch in flight", JoinsInFlight, true),
+        entry("a soft creation joins", SoftJoins, false),
+        entry("joins only a patch that was hard already", JoinsOnlyTheHard, false),
+        entry("never joins", NeverJoins, false),
+        entry("the range grows with the join", RangeGrows, false),
+        entry("next grows with a join", NextGrows, true),
+        entry("only the joined one turns hard", OnlyTheJoinedTurns, false),
+        entry("a join adds befores of its own block", GainsItsOwnBlock, false),
+        entry("a join adds named ones in flight there", GainsInFlightHere, false),
+        entry("a join adds hard ones in flight there", GainsHardHere, false),
+        entry("a join adds no befores", GainsNothing, true),
+        entry("a join adds only befores that wait", GainsOnlyWaiting, true),
+        entry("a join adds one before at most", GainsOneOnly, true),
+        entry("a join's befores replace the old ones", GainedReplace, true),
+        entry("follows only hard ones that it overlaps", FollowsOnlyOverlapped, false),
+        entry("follows no hard one in flight apart", FollowsOnlyWaitingHard, false),
+        entry("follows no hard one waiting apart", FollowsOnlyHardInFlight, false),
+        entry("follows every patch of its block", FollowsAllOfItsBlock, false),
+        entry("a join writes the undo area", JoinWritesUndo, false),
+        entry("a joined change's data is lost", JoinedDataLost, true),
+        entry("a join answers the coming number", JoinAnswersNext, true),
+        entry("8 given to one that joins", RefusesJoins(Refusal::NoNumberLeft), false),
+        entry("9 given to one that joins", RefusesJoins(Refusal::NoFreeSlot), false),
+        entry("8 not given to a soft one beside others", SpareOfSoft(Refusal::NoNumberLeft), false),
+        entry("9 not given to a soft one beside others", SpareOfSoft(Refusal::NoFreeSlot), false),
+    ]
 }
 
 /// The most calls given to the comparison, and to the cuts alone, to catch a wrong model.
@@ -324,7 +468,9 @@ fn caught_by_cuts(library: &dyn Library) -> Option<u64> {
 fn caught(pair: Pair, show: bool) -> Option<Caught> {
     let mut driver = Driver::new(pair);
     let mut before = 0;
-    for (name, run) in [("fixed cases", fixed::run as Written), ("tables", sweep::run as Written)] {
+    let written: [(&str, Written); 3] =
+        [("fixed cases", fixed::run), ("figures", paper::run), ("tables", sweep::run)];
+    for (name, run) in written {
         match run(pair, &mut driver.cover) {
             Ok(calls) => before += calls as u64,
             Err((calls, what)) => {

@@ -1,7 +1,8 @@
-//! Counts how often each refusal and each branch was reached. One that was not fails the run.
+//! Counts how often each refusal and each branch was reached. One that was not fails the run. Each setting has a list of its own.
 
 use crate::model::rules::{Model, Right};
-use crate::model::table::{CLAUSES, KINDS, Kind, MOST_NAMED, ROOMS, Refusal, SLOTS};
+use crate::model::setting::Setting;
+use crate::model::table::{CLAUSES, KINDS, Kind, MOST_NAMED, Refusal, SLOTS};
 use crate::orders::tables::BREAKS;
 use std::collections::BTreeMap;
 
@@ -32,17 +33,20 @@ pub fn refused_early(kind: Kind) -> &'static str {
     }
 }
 
-/// The refusals of each call, in rising number. Open refuses a table of another length besides.
-fn refusals(kind: Kind) -> Vec<u32> {
+/// The refusals of each call, in rising number. Open refuses a table of another length besides. Where each slot has a room, none is
+/// ever without one while a slot is free, and 9 comes first.
+fn refusals(setting: Setting, kind: Kind) -> Vec<u32> {
     let other_length = if kind == Kind::Open { Some(Refusal::NotSound.number()) } else { None };
-    other_length.into_iter().chain(Right.tests(kind).iter().map(|test| test.number())).collect()
+    let never = if setting.rooms() as usize >= SLOTS { Some(Refusal::NoFreeRoom) } else { None };
+    let tests = Right.tests(kind).into_iter().filter(|&test| Some(test) != never);
+    other_length.into_iter().chain(tests.map(Refusal::number)).collect()
 }
 
-/// Everything that must be reached: a name, and the numbers it goes with.
-fn wanted() -> Vec<(&'static str, Vec<u32>)> {
+/// Everything that must be reached under a setting: a name, and the numbers it goes with.
+fn wanted(setting: Setting) -> Vec<(&'static str, Vec<u32>)> {
     let mut wanted: Vec<(&'static str, Vec<u32>)> = Vec::new();
     for kind in KINDS {
-        let refusals = refusals(kind);
+        let refusals = refusals(setting, kind);
         wanted.push((answered(kind), [&[0], &refusals[..]].concat()));
         // After the last there is no later test, and no block in flight is one of which none may go.
         let early = refusals.iter().copied().filter(|refusal| Some(refusal) != refusals.last());
@@ -51,7 +55,7 @@ fn wanted() -> Vec<(&'static str, Vec<u32>)> {
         wanted.push((refused_early(kind), early.filter(|refusal| !never.contains(refusal)).collect()));
     }
     wanted.extend([
-        ("create: soft in room", (0..ROOMS).collect()),
+        ("create: soft in room", (0..setting.rooms()).collect()),
         ("create: in slot", (0..SLOTS as u32).collect()),
         ("create: so many numbers named", (0..=MOST_NAMED as u32).collect()),
         ("ask: state", vec![1, 2, 3]),
@@ -62,23 +66,66 @@ fn wanted() -> Vec<(&'static str, Vec<u32>)> {
         ("cut: ask as noted", vec![1, 2, 3]),
     ]);
     wanted.retain(|(_, numbers): &(&str, Vec<u32>)| !numbers.is_empty());
-    wanted.extend(SINGLE.iter().map(|&name| (name, vec![0])));
+    wanted.extend(singles(setting).map(|name| (name, vec![0])));
     wanted
 }
 
-/// Branches without a number.
-const SINGLE: &[&str] = &[
+fn singles(setting: Setting) -> impl Iterator<Item = &'static str> {
+    let hard = if setting.all_soft() { &[][..] } else { HARD };
+    let joining = if setting.joins() { JOINING } else { &[][..] };
+    SINGLE.iter().chain(hard).chain(joining).copied()
+}
+
+/// Branches without a number, where a change can be hard.
+const HARD: &[&str] = &[
     "create: hard",
     "create: hard, some soft turned hard",
     "create: hard, two or more soft turned hard",
     "create: hard, only one in flight is followed from elsewhere",
     "create: hard, a soft one of another block stays soft",
+    "create: hard, only one in flight on its block",
+];
+
+/// Branches without a number, where changes join.
+const JOINING: &[&str] = &[
+    "create: joined",
+    "create: joined a patch that was soft",
+    "create: joined, another soft one turned hard",
+    "create: joined a hard one, a soft one turned hard",
+    "create: joined, two or more wait",
+    "create: joined, the lowest number not in the lowest slot",
+    "create: joined, one of the block in flight",
+    "create: joined, all slots in use",
+    "create: joined, no number left",
+    "create: joined outside the patch's range",
+    "create: joined, a before that waits added",
+    "create: joined, a before in flight added",
+    "create: joined, a before named that is one already",
+    "create: joined, its own patch named",
+    "create: joined, another of its block named that waits",
+    "create: joined, one of its block named that is in flight",
+    "create: soft beside a waiting hard one, not joined",
+    "create: refused 8, would be soft and some of the block wait",
+    "create: refused 8, none of the block waits",
+    "create: refused 8, only one in flight on the block",
+    "create: refused 9, would be soft and some of the block wait",
+    "create: refused 9, none of the block waits",
+    "create: refused 9, only one in flight on the block",
+    "cut: a number of several changes sent",
+    "cut: a number of several changes called committed",
+];
+
+/// Branches without a number, under every setting.
+const SINGLE: &[&str] = &[
     "create: soft, a lower room taken again",
     "create: a lower slot taken again",
     "create: into a slot with remains",
     "create: overlap is a before",
     "create: overlap with one in flight is a before",
-    "create: only touching, no before",
+    "create: only touching a soft one, no before",
+    "create: a hard one that waits is a before without overlap",
+    "create: a hard one in flight is a before without overlap",
+    "create: a soft one in flight is no before without overlap",
     "create: same range on another block, no before",
     "create: named is a before",
     "create: named and in flight is a before",
@@ -155,12 +202,12 @@ impl Cover {
     }
 
     /// What must be reached and was not.
-    pub fn missing(&self) -> Vec<String> {
+    pub fn missing(&self, setting: Setting) -> Vec<String> {
         let mut missing = Vec::new();
-        for (name, numbers) in wanted() {
+        for (name, numbers) in wanted(setting) {
             for number in numbers {
                 if self.count(name, number) == 0 {
-                    missing.push(label(name, number));
+                    missing.push(label(setting, name, number));
                 }
             }
         }
@@ -168,9 +215,9 @@ impl Cover {
     }
 
     /// Prints every count, a line for each name.
-    pub fn print(&self) {
+    pub fn print(&self, setting: Setting) {
         println!("reached (how often):");
-        for (name, numbers) in wanted() {
+        for (name, numbers) in wanted(setting) {
             if numbers == [0] {
                 println!("  {:>9}  {name}", self.count(name, 0));
                 continue;
@@ -189,6 +236,10 @@ impl Cover {
     }
 }
 
-fn label(name: &str, number: u32) -> String {
-    if SINGLE.contains(&name) { String::from(name) } else { format!("{name} {number}") }
+fn label(setting: Setting, name: &str, number: u32) -> String {
+    if singles(setting).any(|single| single == name) {
+        String::from(name)
+    } else {
+        format!("{name} {number}")
+    }
 }

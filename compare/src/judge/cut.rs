@@ -5,10 +5,12 @@
 //! store must be the opening with the landed changes carried out singly in the order they were
 //! accepted, and whatever a landed change named must have landed too.
 //!
-//! A number may stand for several changes; a change that names it asks for those accepted earlier.
+//! A number may stand for several changes, which land together: it is given again only while its patch waits. A change that names
+//! it asks for those accepted earlier, and for no later one.
 
 use crate::judge::cover::Cover;
 use crate::model::bytes::set_of;
+use crate::model::setting::Setting;
 use crate::model::table::{BLOCK_BYTES, SLOTS};
 use crate::orders::steps::{Answer, Call, Lent};
 use std::collections::{BTreeMap, BTreeSet};
@@ -29,6 +31,7 @@ struct Out {
 }
 
 pub struct History {
+    setting: Setting,
     opening: Vec<u8>,
     /// The opening with the blocks of all completed writes.
     store: Vec<u8>,
@@ -41,8 +44,9 @@ pub struct History {
 }
 
 impl History {
-    pub fn opened(image: &[u8]) -> History {
+    pub fn opened(setting: Setting, image: &[u8]) -> History {
         History {
+            setting,
             opening: image.to_vec(),
             store: image.to_vec(),
             accepted: Vec::new(),
@@ -64,28 +68,54 @@ impl History {
             Call::Open { .. } => Err(String::from("an opening begins a history, and is none of its calls")),
             Call::Create { block, offset, data, named } => {
                 let (number, data, named) = (answer.number, data.clone(), named.clone());
-                self.accept(Accepted { number, block: *block, offset: *offset, data, named })
+                self.accept(Accepted { number, block: *block, offset: *offset, data, named }, answer.hold)
             }
-            Call::Write { block } => self.send(*block, answer.set, handed),
+            Call::Write { block } => self.send(*block, answer.set, handed, cover),
             Call::Complete { block } => self.complete(*block, cover),
             Call::Ask { number } => self.asked(*number, answer.state, cover),
             Call::Count { block } => self.counted(*block, answer.count),
         }
     }
 
-    fn accept(&mut self, change: Accepted) -> Result<(), String> {
-        if self.changes_of(change.number).next().is_some() {
-            return Err(format!("number {} was given twice", change.number));
-        }
+    /// A change of a new number takes the lowest free slot; one of a number given before goes with that number's changes.
+    fn accept(&mut self, change: Accepted, hold: u32) -> Result<(), String> {
         if let Some(unknown) = change.named.iter().find(|&&number| self.changes_of(number).next().is_none()) {
             return Err(format!("a change was accepted that names {unknown}, which was never given"));
         }
-        let Some(free) = self.slots.iter_mut().find(|slot| slot.is_none()) else {
-            return Err(String::from("a change was accepted with all slots in use"));
-        };
-        *free = Some(change.number);
+        if self.changes_of(change.number).next().is_some() {
+            self.may_share(&change, hold)?;
+        } else {
+            let Some(free) = self.slots.iter_mut().find(|slot| slot.is_none()) else {
+                return Err(String::from("a change was accepted with all slots in use"));
+            };
+            *free = Some(change.number);
+        }
         self.accepted.push(change);
         Ok(())
+    }
+
+    /// Is this a number that may be given again, by what was noted?
+    fn may_share(&self, change: &Accepted, hold: u32) -> Result<(), String> {
+        let number = change.number;
+        if !self.setting.joins() {
+            return Err(format!("number {number} was given twice"));
+        }
+        if hold != 1 {
+            return Err(format!("number {number} was given again to a change that is not hard"));
+        }
+        match self.waiting_on(change.block).first() {
+            Some(&lowest) if lowest == number => Ok(()),
+            lowest => Err(format!(
+                "number {number} was given again on block {}, where {lowest:?} is the lowest that waits",
+                change.block
+            )),
+        }
+    }
+
+    /// The numbers that wait on a block.
+    fn waiting_on(&self, block: u32) -> BTreeSet<u32> {
+        let here = self.accepted.iter().filter(|change| change.block == block);
+        here.map(|change| change.number).filter(|&number| !self.sent(number)).collect()
     }
 
     fn changes_of(&self, number: u32) -> impl Iterator<Item = &Accepted> {
@@ -96,7 +126,8 @@ impl History {
         self.landed.contains(&number) || self.out.values().any(|out| out.numbers.contains(&number))
     }
 
-    fn send(&mut self, block: u32, set: u64, handed: &[u8]) -> Result<(), String> {
+    /// Each number sent is that of at least one accepted change, and all its changes are of the write's block.
+    fn send(&mut self, block: u32, set: u64, handed: &[u8], cover: &mut Cover) -> Result<(), String> {
         if self.out.contains_key(&block) {
             return Err(format!("a write of block {block} was granted with one of it out"));
         }
@@ -106,8 +137,14 @@ impl History {
             if self.sent(number) {
                 return Err(format!("number {number} was sent twice"));
             }
+            if self.changes_of(number).next().is_none() {
+                return Err(format!("number {number} was sent, and is no accepted change's"));
+            }
             if self.changes_of(number).any(|change| change.block != block) {
                 return Err(format!("number {number} was sent to block {block}, which is not its own"));
+            }
+            if self.changes_of(number).nth(1).is_some() {
+                cover.add("cut: a number of several changes sent", 0);
             }
         }
         self.out.insert(block, Out { handed: handed.to_vec(), numbers });
@@ -139,18 +176,38 @@ impl History {
             (true, true) => 3,
         };
         cover.add("cut: ask as noted", noted);
-        if state == noted { Ok(()) } else { Err(format!("ask says {state} of {number}, the notes {noted}")) }
+        if state != noted {
+            return Err(format!("ask says {state} of {number}, the notes {noted}"));
+        }
+        if noted == 3 { self.all_on_the_store(number, cover) } else { Ok(()) }
+    }
+
+    /// What is called committed is on the store with all its changes: its block there is the opening's with all that committed.
+    fn all_on_the_store(&self, number: u32, cover: &mut Cover) -> Result<(), String> {
+        if self.changes_of(number).nth(1).is_some() {
+            cover.add("cut: a number of several changes called committed", 0);
+        }
+        let Some(change) = self.changes_of(number).next() else {
+            return Err(format!("{number} was called committed, and is no accepted change's"));
+        };
+        let start = BLOCK_BYTES * change.block as usize;
+        let expected = self.block_with(change.block, &|change| self.landed.contains(&change.number));
+        same_bytes(&self.store[start..start + BLOCK_BYTES], &expected, start, &[])
+    }
+
+    /// The opening's block with those of its changes carried out that pass.
+    fn block_with(&self, block: u32, landed: &dyn Fn(&Accepted) -> bool) -> Vec<u8> {
+        let start = BLOCK_BYTES * block as usize;
+        let mut bytes = self.opening[start..start + BLOCK_BYTES].to_vec();
+        for change in self.accepted.iter().filter(|change| change.block == block && landed(change)) {
+            carry(&mut bytes, change.offset as usize, &change.data);
+        }
+        bytes
     }
 
     fn counted(&self, block: u32, count: u32) -> Result<(), String> {
-        let here = self.accepted.iter().filter(|change| change.block == block);
-        let waiting: BTreeSet<u32> =
-            here.map(|change| change.number).filter(|&number| !self.sent(number)).collect();
-        if waiting.len() == count as usize {
-            Ok(())
-        } else {
-            Err(format!("{count} counted for {}", waiting.len()))
-        }
+        let waiting = self.waiting_on(block).len();
+        if waiting == count as usize { Ok(()) } else { Err(format!("{count} counted for {waiting}")) }
     }
 
     /// What a store that lost its power now would hold, with the writes of these blocks landed.
@@ -207,15 +264,12 @@ impl History {
         let landed =
             |change: &Accepted| self.landed.contains(&change.number) || out.numbers.contains(&change.number);
         self.nothing_asked_is_missing(&landed, &mut Cover::default())?;
-        let start = BLOCK_BYTES * block as usize;
-        let mut expected = self.opening[start..start + BLOCK_BYTES].to_vec();
-        for change in self.accepted.iter().filter(|change| change.block == block && landed(change)) {
-            carry(&mut expected, change.offset as usize, &change.data);
-        }
-        same_bytes(&out.handed, &expected, start, &[block])
+        let expected = self.block_with(block, &landed);
+        same_bytes(&out.handed, &expected, BLOCK_BYTES * block as usize, &[block])
     }
 
-    /// Asked of every landed change, so it covers what is named through others as well.
+    /// Asked of every landed change, so it covers what is named through others as well. A change asks for what was accepted before it:
+    /// `missing` has, at each change, the numbers of earlier changes that did not land.
     fn nothing_asked_is_missing(
         &self,
         landed: &dyn Fn(&Accepted) -> bool,
@@ -228,7 +282,10 @@ impl History {
                 continue;
             }
             if let Some(named) = change.named.iter().find(|named| missing.contains(named)) {
-                return Err(format!("change {} landed, {named}, which it names, did not", change.number));
+                return Err(format!(
+                    "a change of {} landed, {named}, which it names, did not",
+                    change.number
+                ));
             }
             if !change.named.is_empty() {
                 cover.add("cut: a landed change names a landed one", 0);

@@ -4,6 +4,7 @@ use crate::judge::cover::Cover;
 use crate::judge::run::{Failure, Order, Pair, Run};
 use crate::judge::shrink::{line, said, table_lines};
 use crate::model::rules::{Model, Right};
+use crate::model::setting::Setting;
 use crate::model::table::{Refusal, Table};
 use crate::orders::faults;
 use crate::orders::maker::{Maker, Taste, first_number};
@@ -51,6 +52,10 @@ impl<'a> Driver<'a> {
         Driver { pair, cover, sums, show_seeds: false, show_calls: false }
     }
 
+    fn setting(&self) -> Setting {
+        self.pair.library.setting()
+    }
+
     /// Runs orders until so many calls are made, or one fails.
     pub fn run(&mut self, seed: u64, calls: u64, progress: &mut dyn FnMut(&Sums)) -> Result<(), Box<Failed>> {
         let mut place = 0;
@@ -85,7 +90,7 @@ impl<'a> Driver<'a> {
     fn with_history(&mut self, mut random: Random, fill: u64) -> Result<(), Stop> {
         let mut order = Order { fill, ..Order::of(&[]) };
         let calls = random.between(10, 260) as usize;
-        let first = opening(&mut random);
+        let first = opening(&mut random, self.setting());
         let taste = Taste::of_seed(&mut random);
         let drain = random.percent(50);
         let opens_again = random.percent(30);
@@ -95,7 +100,8 @@ impl<'a> Driver<'a> {
         for _ in 0..calls {
             let Some(table) = &run.table else { break };
             let again = opens_again && maker.random.percent(2);
-            let step = if again { open_again(&mut maker.random, &run) } else { maker.step(table) };
+            let step =
+                if again { open_again(&mut maker.random, self.setting(), &run) } else { maker.step(table) };
             self.call(&mut run, &mut order, step)?;
         }
         if drain {
@@ -121,7 +127,7 @@ impl<'a> Driver<'a> {
 
     /// A sound table that no order would leave, and some calls on it.
     fn odd_table(&mut self, mut random: Random, fill: u64) -> Result<(), Stop> {
-        let table = tables::sound(&mut random);
+        let table = tables::sound(&mut random, self.setting());
         let bytes = tables::bytes_with_unread_rooms(&mut random, &table);
         let calls = random.between(1, 12) as usize;
         self.on_table(random, fill, bytes, table, calls).map(|_| ())
@@ -130,7 +136,7 @@ impl<'a> Driver<'a> {
     /// A table with one clause of soundness broken: every call is refused.
     fn broken_table(&mut self, mut random: Random, fill: u64) -> Result<(), Stop> {
         let way = random.below(BREAKS.len());
-        let table = tables::broken(&mut random, &BREAKS[way]);
+        let table = tables::broken(&mut random, self.setting(), &BREAKS[way]);
         let bytes = tables::bytes_with_unread_rooms(&mut random, &table);
         if self.on_table(random, fill, bytes, table, 4)? {
             self.cover.add("unsound in this way", way as u32);
@@ -140,8 +146,8 @@ impl<'a> Driver<'a> {
 
     /// Bytes that are no table, as far as the first open.
     fn no_table(&mut self, mut random: Random, fill: u64) -> Result<(), Stop> {
-        let bytes = tables::bad_tag(&mut random);
-        self.on_table(random, fill, bytes, Table::empty(1), 4).map(|_| ())
+        let bytes = tables::bad_tag(&mut random, self.setting());
+        self.on_table(random, fill, bytes, Table::empty(self.setting(), 1), 4).map(|_| ())
     }
 
     /// Makes calls on given bytes, without history. Says whether the first was refused 2.
@@ -187,14 +193,14 @@ impl<'a> Driver<'a> {
 }
 
 /// An opening, at times one that is refused.
-fn opening(random: &mut Random) -> Step {
+fn opening(random: &mut Random, setting: Setting) -> Step {
     let step = open(first_number(random));
-    if random.percent(5) { faults::spoil(random, &Table::empty(1), step) } else { step }
+    if random.percent(5) { faults::spoil(random, &Table::empty(setting, 1), step) } else { step }
 }
 
 /// Another opening in the midst of an order: on the image as it stands, or after a cut that some of the writes out survived.
-fn open_again(random: &mut Random, run: &Run) -> Step {
-    let step = opening(random);
+fn open_again(random: &mut Random, setting: Setting, run: &Run) -> Step {
+    let step = opening(random, setting);
     if random.percent(30) {
         return step;
     }

@@ -5,6 +5,7 @@ use crate::judge::cut::History;
 use crate::judge::watch;
 use crate::library::calls::Library;
 use crate::model::bytes::{SLOT_BYTES, TABLE_BYTES, decode};
+use crate::model::setting::Setting;
 use crate::model::table::{BLOCK_BYTES, ROOM_BYTES, Refusal, Table};
 use crate::orders::steps::{Answer, Call, Lent, Step, play};
 
@@ -55,8 +56,9 @@ pub struct Run<'a> {
 
 impl<'a> Run<'a> {
     pub fn start(pair: Pair<'a>, order: &Order) -> Run<'a> {
-        let lent = Lent::filled(&order.table, order.fill);
-        let (beside, table) = (lent.clone(), decode(&order.table));
+        let setting = pair.library.setting();
+        let lent = Lent::filled(setting, &order.table, order.fill);
+        let (beside, table) = (lent.clone(), decode(setting, &order.table));
         Run { pair, lent, beside, table, history: None, cuts: order.cuts, made: 0 }
     }
 
@@ -81,10 +83,10 @@ impl<'a> Run<'a> {
         }
         if what.is_none() && other.is_some() {
             let seen = self.table.as_ref().filter(|_| bytes_before.len() == TABLE_BYTES);
-            watch::see(cover, seen, &bytes_before, step, &answer);
+            watch::see(cover, self.pair.library.setting(), seen, &bytes_before, step, &answer);
         }
         if self.lent.table != bytes_before {
-            self.table = decode(&self.lent.table);
+            self.table = decode(self.pair.library.setting(), &self.lent.table);
         }
         let what = match what {
             Some(what) => Some(what),
@@ -118,7 +120,8 @@ impl<'a> Run<'a> {
         }
         if let Call::Open { .. } = call {
             if answer.refusal != Refusal::NotSound.number() {
-                let again = self.history.replace(History::opened(&self.lent.image)).is_some();
+                let opened = History::opened(self.pair.library.setting(), &self.lent.image);
+                let again = self.history.replace(opened).is_some();
                 cover.add(
                     if again { "open: another history" } else { "open: the first history" },
                     answer.refusal,
@@ -171,7 +174,7 @@ fn describe(name: &str, unit: usize, left: &[u8], right: &[u8]) -> String {
         return format!("{place}: library {}, model {}", left[at], right[at]);
     }
     let slot = (at - 8) / unit;
-    let show = |bytes: &[u8]| match decode(bytes) {
+    let show = |bytes: &[u8]| match decode(Setting::Board, bytes) {
         Some(table) => format!("{:?}", table.slots[slot]),
         None => String::from("no table"),
     };

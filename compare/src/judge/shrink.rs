@@ -3,6 +3,7 @@
 use crate::judge::cover::Cover;
 use crate::judge::run::{Failure, Order, Pair, Run, replay};
 use crate::model::bytes::{SLOT_BYTES, TABLE_BYTES, decode, encoded};
+use crate::model::setting::Setting;
 use crate::model::table::{SLOTS, Slot, Table};
 use crate::orders::steps::{Answer, Call, Step};
 
@@ -139,7 +140,7 @@ pub fn table_lines(bytes: &[u8]) -> String {
     if *bytes == vec![0; TABLE_BYTES] {
         return String::from("        table: vec![0; TABLE_BYTES],");
     }
-    match decode(bytes) {
+    match decode(Setting::Board, bytes) {
         Some(table) if encoded(&table) == bytes => slot_lines(&table),
         _ => {
             let places = (0..bytes.len()).filter(|&i| bytes[i] != 0).map(|i| (i, bytes[i]));

@@ -3,15 +3,23 @@
 use crate::judge::cover::{Cover, answered, refused_early};
 use crate::model::bytes::{SLOT_BYTES, TABLE_BYTES, set_of};
 use crate::model::rules::{Model, Right};
+use crate::model::setting::Setting;
 use crate::model::table::*;
 use crate::orders::steps::{Answer, Buffer, Call, Step, exact_size};
 use std::collections::BTreeSet;
 
 /// `table` is the table before the call, `lent` its bytes as the call got them.
-pub fn see(cover: &mut Cover, table: Option<&Table>, lent: &[u8], step: &Step, answer: &Answer) {
+pub fn see(
+    cover: &mut Cover,
+    setting: Setting,
+    table: Option<&Table>,
+    lent: &[u8],
+    step: &Step,
+    answer: &Answer,
+) {
     cover.add(answered(step.kind()), answer.refusal);
     for &(buffer, size) in &step.odd {
-        see_odd(cover, step.kind(), buffer, size);
+        see_odd(cover, step.kind(), buffer, size < exact_size(setting, buffer));
     }
     let Some(table) = table else {
         let odd_length = lent.len() != TABLE_BYTES;
@@ -27,7 +35,6 @@ pub fn see(cover: &mut Cover, table: Option<&Table>, lent: &[u8], step: &Step, a
         Call::Create { block, offset, data, named } => {
             let change = Change { block: *block, offset: *offset, data, named };
             see_create(cover, table, &change, answer);
-            see_befores(cover, table, &change);
         }
         Call::Write { block } => see_write(cover, table, *block, &set_of(answer.set)),
         Call::Complete { block } => see_complete(cover, table, *block, lent),
@@ -49,8 +56,7 @@ fn when(cover: &mut Cover, reached: bool, name: &'static str) {
     }
 }
 
-fn see_odd(cover: &mut Cover, kind: Kind, buffer: Buffer, size: usize) {
-    let short = size < exact_size(buffer);
+fn see_odd(cover: &mut Cover, kind: Kind, buffer: Buffer, short: bool) {
     let name = match (buffer, short) {
         (Buffer::Table, _) => return,
         (Buffer::Image, true) => "buffer too short: image",
@@ -63,30 +69,32 @@ fn see_odd(cover: &mut Cover, kind: Kind, buffer: Buffer, size: usize) {
     when(cover, matches!(kind, Kind::Create | Kind::Write), name);
 }
 
+/// A number that a slot has already says that the change joined that slot's patch.
 fn see_create(cover: &mut Cover, table: &Table, change: &Change, answer: &Answer) {
-    let waiting = table.waiting(change.block);
-    let soft = waiting.iter().filter(|&&i| table.slots[i].room().is_some()).count();
+    see_change(cover, table, change);
     if answer.hold == 1 {
-        cover.add("create: hard", 0);
-        when(cover, soft >= 1, "create: hard, some soft turned hard");
-        when(cover, soft >= 2, "create: hard, two or more soft turned hard");
-        let flying = table.in_flight(change.block);
-        let followed =
-            table.patches().any(|(_, p)| p.block != change.block && !p.befores.is_disjoint(&flying));
-        when(cover, followed, "create: hard, only one in flight is followed from elsewhere");
-        let elsewhere = table.rooms_taken().len() > soft;
-        when(cover, elsewhere, "create: hard, a soft one of another block stays soft");
+        see_hard(cover, table, change.block);
     } else {
         let room = answer.hold - 2;
         cover.add("create: soft in room", room);
         let higher = table.rooms_taken().iter().any(|&taken| taken > room);
         when(cover, higher, "create: soft, a lower room taken again");
+        let beside = !table.hard_waiting(change.block).is_empty();
+        when(cover, beside, "create: soft beside a waiting hard one, not joined");
     }
-    let slot = table.slots.iter().position(|slot| !slot.used()).unwrap_or(0);
-    cover.add("create: in slot", slot as u32);
-    let higher = table.patches().any(|(i, _)| i > slot);
-    when(cover, higher, "create: a lower slot taken again");
-    when(cover, table.slots[slot] != Slot::free(), "create: into a slot with remains");
+    match table.slot_of(answer.number) {
+        Some(slot) => {
+            see_joined(cover, table, change, slot);
+            see_gained(cover, table, change, slot);
+        }
+        None => {
+            see_added(cover, table, answer.number);
+            see_befores(cover, table, change);
+        }
+    }
+}
+
+fn see_change(cover: &mut Cover, table: &Table, change: &Change) {
     let length = change.data.len();
     when(cover, length == 1, "create: length 1");
     when(cover, length == LONGEST_DATA, "create: length 64");
@@ -94,29 +102,101 @@ fn see_create(cover: &mut Cover, table: &Table, change: &Change, answer: &Answer
     when(cover, end == BLOCK_BYTES, "create: ends with the block");
     let last = change.block == LAST_BLOCK && end == BLOCK_BYTES;
     when(cover, last, "create: in the last 64 bytes of the image");
-    when(cover, answer.number == LAST_NUMBER, "create: number 1,000,000,000");
+    cover.add("create: so many numbers named", change.named.len() as u32);
+    let committed = change.named.iter().any(|&number| table.slot_of(number).is_none());
+    when(cover, committed, "create: committed name dropped");
+    let twice = (1..change.named.len()).any(|i| change.named[..i].contains(&change.named[i]));
+    when(cover, twice, "create: number named twice");
+}
+
+fn see_hard(cover: &mut Cover, table: &Table, block: u32) {
+    let (waiting, flying) = (table.waiting(block), table.in_flight(block));
+    let soft = waiting.iter().filter(|&&i| table.slots[i].room().is_some()).count();
+    cover.add("create: hard", 0);
+    when(cover, soft >= 1, "create: hard, some soft turned hard");
+    when(cover, soft >= 2, "create: hard, two or more soft turned hard");
+    let followed = table.patches().any(|(_, p)| p.block != block && !p.befores.is_disjoint(&flying));
+    when(cover, followed, "create: hard, only one in flight is followed from elsewhere");
+    let elsewhere = table.rooms_taken().len() > soft;
+    when(cover, elsewhere, "create: hard, a soft one of another block stays soft");
+    let only_flying = waiting.is_empty() && !flying.is_empty();
+    when(cover, only_flying, "create: hard, only one in flight on its block");
+}
+
+/// A patch of its own.
+fn see_added(cover: &mut Cover, table: &Table, number: u32) {
+    let slot = table.slots.iter().position(|slot| !slot.used()).unwrap_or(0);
+    cover.add("create: in slot", slot as u32);
+    let higher = table.patches().any(|(i, _)| i > slot);
+    when(cover, higher, "create: a lower slot taken again");
+    when(cover, table.slots[slot] != Slot::free(), "create: into a slot with remains");
+    when(cover, number == LAST_NUMBER, "create: number 1,000,000,000");
+}
+
+fn see_joined(cover: &mut Cover, table: &Table, change: &Change, slot: usize) {
+    let (patch, waiting) = (&table.slots[slot], table.waiting(change.block));
+    let other_soft = waiting.iter().any(|&i| i != slot && table.slots[i].room().is_some());
+    cover.add("create: joined", 0);
+    when(cover, patch.room().is_some(), "create: joined a patch that was soft");
+    when(cover, other_soft, "create: joined, another soft one turned hard");
+    when(cover, other_soft && patch.hard(), "create: joined a hard one, a soft one turned hard");
+    when(cover, waiting.len() >= 2, "create: joined, two or more wait");
+    let higher = waiting.first() != Some(&slot);
+    when(cover, higher, "create: joined, the lowest number not in the lowest slot");
+    let flying = !table.in_flight(change.block).is_empty();
+    when(cover, flying, "create: joined, one of the block in flight");
+    when(cover, table.patches().count() == SLOTS, "create: joined, all slots in use");
+    when(cover, table.next > LAST_NUMBER, "create: joined, no number left");
+    let end = u64::from(change.offset) + change.data.len() as u64;
+    let outside = change.offset < patch.offset || end > patch.end();
+    when(cover, outside, "create: joined outside the patch's range");
+}
+
+/// What a joined change names, and what becomes of it.
+fn see_gained(cover: &mut Cover, table: &Table, change: &Change, slot: usize) {
+    for i in change.named.iter().filter_map(|&number| table.slot_of(number)) {
+        let named = &table.slots[i];
+        let there = table.slots[slot].befores.contains(&i);
+        let name = match (named.block == change.block, named.waiting()) {
+            (false, _) if there => "create: joined, a before named that is one already",
+            (false, true) => "create: joined, a before that waits added",
+            (false, false) => "create: joined, a before in flight added",
+            (true, true) if i == slot => "create: joined, its own patch named",
+            (true, true) => "create: joined, another of its block named that waits",
+            (true, false) => "create: joined, one of its block named that is in flight",
+        };
+        cover.add(name, 0);
+    }
 }
 
 fn see_befores(cover: &mut Cover, table: &Table, change: &Change) {
     let (start, end) = (u64::from(change.offset), u64::from(change.offset) + change.data.len() as u64);
-    cover.add("create: so many numbers named", change.named.len() as u32);
     for (_, patch) in table.patches() {
         let shares = u64::from(patch.offset) < end && start < patch.end();
         let here = patch.block == change.block;
         let named = change.named.contains(&patch.number);
         when(cover, here && shares, "create: overlap is a before");
         when(cover, here && shares && patch.in_flight(), "create: overlap with one in flight is a before");
-        let touches = u64::from(patch.offset) == end || start == patch.end();
-        when(cover, here && touches && !named, "create: only touching, no before");
         when(cover, !here && shares && !named, "create: same range on another block, no before");
         when(cover, named, "create: named is a before");
         when(cover, named && patch.in_flight(), "create: named and in flight is a before");
         when(cover, named && here && shares, "create: named and overlapping");
+        if here && !shares && !named {
+            let touches = u64::from(patch.offset) == end || start == patch.end();
+            when(cover, touches && !patch.hard(), "create: only touching a soft one, no before");
+            see_apart(cover, patch);
+        }
     }
-    let committed = change.named.iter().any(|&number| table.slot_of(number).is_none());
-    when(cover, committed, "create: committed name dropped");
-    let twice = (1..change.named.len()).any(|i| change.named[..i].contains(&change.named[i]));
-    when(cover, twice, "create: number named twice");
+}
+
+/// A patch of the block that a new one neither names nor overlaps.
+fn see_apart(cover: &mut Cover, patch: &Slot) {
+    match patch.state {
+        State::WaitingHard => cover.add("create: a hard one that waits is a before without overlap", 0),
+        State::InFlightHard => cover.add("create: a hard one in flight is a before without overlap", 0),
+        State::InFlightSoft => cover.add("create: a soft one in flight is no before without overlap", 0),
+        State::Free | State::WaitingSoft { .. } => {}
+    }
 }
 
 fn see_write(cover: &mut Cover, table: &Table, block: u32, sent: &Slots) {
@@ -233,10 +313,31 @@ fn see_refused(cover: &mut Cover, table: &Table, step: &Step, refusal: u32) {
             when(cover, asked.numbers.contains(&(table.first - 1)), "refused 7, first - 1");
         }
         Refusal::NoneMayGo => see_held(cover, table, asked.block),
-        Refusal::BufferSize | Refusal::BlockAbove63 | Refusal::NoNumberLeft | Refusal::NoFreeSlot => {}
+        Refusal::NoNumberLeft => see_no_place(cover, table, asked.block, NO_NUMBER),
+        Refusal::NoFreeSlot => see_no_place(cover, table, asked.block, NO_SLOT),
+        Refusal::BufferSize | Refusal::BlockAbove63 => {}
         Refusal::NoFreeRoom | Refusal::OneInFlight | Refusal::NoneWaits | Refusal::NoneInFlight => {}
         Refusal::FirstNumber => {}
     }
+}
+
+const NO_NUMBER: [&str; 3] = [
+    "create: refused 8, would be soft and some of the block wait",
+    "create: refused 8, none of the block waits",
+    "create: refused 8, only one in flight on the block",
+];
+const NO_SLOT: [&str; 3] = [
+    "create: refused 9, would be soft and some of the block wait",
+    "create: refused 9, none of the block waits",
+    "create: refused 9, only one in flight on the block",
+];
+
+/// Why a creation without number or slot did not join: its name for each reason.
+fn see_no_place(cover: &mut Cover, table: &Table, block: u32, names: [&'static str; 3]) {
+    let none_waits = table.waiting(block).is_empty();
+    when(cover, !none_waits && !Right.would_be_hard(table, block), names[0]);
+    when(cover, none_waits, names[1]);
+    when(cover, none_waits && !table.in_flight(block).is_empty(), names[2]);
 }
 
 fn see_unsound(cover: &mut Cover, table: &Table) {

@@ -1,8 +1,15 @@
 //! The six calls over plain buffers. Each answers a refusal number (0 granted); what else it
 //! answers goes through the numbers lent last, which every call writes.
 
+use crate::model::setting::Setting;
+
 #[allow(clippy::too_many_arguments)]
 pub trait Library {
+    /// What its table's bytes mean: the board's setting, but for a model that stands in for the library.
+    fn setting(&self) -> Setting {
+        Setting::Board
+    }
+
     fn open(&self, table: &mut [u8], first: u32) -> u32;
 
     /// hold: 0 no word, 1 hard, 2 + r soft with undo room r.

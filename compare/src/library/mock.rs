@@ -4,12 +4,17 @@
 use crate::library::calls::Library;
 use crate::model::bytes::{TABLE_BYTES, decode, encode, mask};
 use crate::model::rules::Model;
+use crate::model::setting::Setting;
 use crate::model::table::Refusal::NotSound;
 use crate::model::table::*;
 
 pub struct Mock<M>(pub M);
 
 impl<M: Model> Library for Mock<M> {
+    fn setting(&self) -> Setting {
+        self.0.setting()
+    }
+
     fn open(&self, table: &mut [u8], first: u32) -> u32 {
         if table.len() != TABLE_BYTES {
             return NotSound.number();
@@ -32,8 +37,8 @@ impl<M: Model> Library for Mock<M> {
         hold: &mut u32,
     ) -> u32 {
         (*number, *hold) = (0, 0);
-        let Some(mut taken) = decode(table) else {
-            return no_table(image.len() == IMAGE_BYTES && undo.len() == UNDO_BYTES);
+        let Some(mut taken) = decode(self.0.setting(), table) else {
+            return no_table(image.len() == IMAGE_BYTES && undo.len() == undo_bytes(self.setting()));
         };
         match self.0.create(&mut taken, image, undo, &Change { block, offset, data, named }) {
             Err(refusal) => refusal.number(),
@@ -55,8 +60,8 @@ impl<M: Model> Library for Mock<M> {
         set: &mut u64,
     ) -> u32 {
         *set = 0;
-        let Some(mut taken) = decode(table) else {
-            let exact = image.len() == IMAGE_BYTES && undo.len() == UNDO_BYTES;
+        let Some(mut taken) = decode(self.0.setting(), table) else {
+            let exact = image.len() == IMAGE_BYTES && undo.len() == undo_bytes(self.setting());
             return no_table(exact && handed.len() == BLOCK_BYTES);
         };
         match self.0.write(&mut taken, image, undo, handed, block) {
@@ -70,7 +75,7 @@ impl<M: Model> Library for Mock<M> {
     }
 
     fn complete(&self, table: &mut [u8], block: u32) -> u32 {
-        let Some(mut taken) = decode(table) else { return NotSound.number() };
+        let Some(mut taken) = decode(self.0.setting(), table) else { return NotSound.number() };
         match self.0.complete(&mut taken, block) {
             Err(refusal) => refusal.number(),
             Ok(()) => {
@@ -82,7 +87,7 @@ impl<M: Model> Library for Mock<M> {
 
     fn ask(&self, table: &[u8], asked: u32, state: &mut u32) -> u32 {
         *state = 0;
-        let Some(taken) = decode(table) else { return NotSound.number() };
+        let Some(taken) = decode(self.0.setting(), table) else { return NotSound.number() };
         match self.0.ask(&taken, asked) {
             Err(refusal) => refusal.number(),
             Ok(standing) => {
@@ -94,7 +99,7 @@ impl<M: Model> Library for Mock<M> {
 
     fn count(&self, table: &[u8], block: u32, count: &mut u32) -> u32 {
         *count = 0;
-        let Some(taken) = decode(table) else { return NotSound.number() };
+        let Some(taken) = decode(self.0.setting(), table) else { return NotSound.number() };
         match self.0.count(&taken, block) {
             Err(refusal) => refusal.number(),
             Ok(waiting) => {

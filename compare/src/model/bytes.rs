@@ -1,5 +1,7 @@
-//! The table as bytes: first, next, then 64 slots of 32 bytes, every number little-endian.
+//! The table as bytes: first, next, then 64 slots of 32 bytes, every number little-endian. The setting is not among them: the
+//! library's bytes mean the board's, and who runs the model under another says which.
 
+use crate::model::setting::Setting;
 use crate::model::table::{SLOTS, Slot, Slots, State, Table};
 
 pub const TABLE_BYTES: usize = 8 + SLOTS * SLOT_BYTES;
@@ -14,7 +16,7 @@ fn put_number(bytes: &mut [u8], at: usize, number: u32) {
 }
 
 /// None when the bytes are no table: another length, or a tag above 4.
-pub fn decode(bytes: &[u8]) -> Option<Table> {
+pub fn decode(setting: Setting, bytes: &[u8]) -> Option<Table> {
     if bytes.len() != TABLE_BYTES {
         return None;
     }
@@ -22,7 +24,7 @@ pub fn decode(bytes: &[u8]) -> Option<Table> {
     for slot in bytes[8..].chunks(SLOT_BYTES) {
         slots.push(decode_slot(slot)?);
     }
-    Some(Table { first: number_at(bytes, 0), next: number_at(bytes, 4), slots })
+    Some(Table { setting, first: number_at(bytes, 0), next: number_at(bytes, 4), slots })
 }
 
 fn decode_slot(bytes: &[u8]) -> Option<Slot> {

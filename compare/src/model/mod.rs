@@ -1,5 +1,6 @@
-//! The second model: the rules of document 01, said once more and in another way than the library.
+//! The second model: the rules of document 01 and of request a, said once more and in another way than the library.
 
 pub mod bytes;
 pub mod rules;
+pub mod setting;
 pub mod table;

@@ -1,4 +1,4 @@
-//! The model: the rules of document 01, said once more and in another way than the library.
+//! The model: the rules of document 01 and of request a, said once more and in another way than the library.
 //!
 //! Every rule is a method of the trait `Model` with its body here. `Right` takes them all as they
 //! are. A wrong model (wrong.rs) replaces one of them and keeps the rest.
@@ -6,6 +6,7 @@
 //! Sets are sets of slot numbers, not masks. The largest set that may go is found by trying every
 //! subset when few patches wait, else by following befores. No striking in rounds is done here.
 
+use crate::model::setting::Setting;
 use crate::model::table::*;
 use std::collections::BTreeSet;
 
@@ -25,6 +26,11 @@ fn room_start(room: u32) -> usize {
 }
 
 pub trait Model {
+    /// What open gives its table. All other rules ask the table.
+    fn setting(&self) -> Setting {
+        Setting::Board
+    }
+
     // ---- The table: when it is sound, and what its numbers mean ----
 
     fn tests_clause(&self, _clause: Clause) -> bool {
@@ -47,7 +53,7 @@ pub trait Model {
             Clause::Ends => every(&|_, p| p.end() <= BLOCK_BYTES as u64),
             Clause::BeforesUsed => every(&|_, p| p.befores.iter().all(|&b| table.slots[b].used())),
             Clause::BeforesNotOwn => every(&|i, p| !p.befores.contains(&i)),
-            Clause::Rooms => table.rooms_taken().iter().all(|&room| room < ROOMS),
+            Clause::Rooms => table.rooms_taken().iter().all(|&room| room < table.setting.rooms()),
             Clause::RoomsDiffer => all_different(table.rooms_taken().into_iter()),
         }
     }
@@ -91,8 +97,12 @@ pub trait Model {
             Refusal::PastTheEnd => self.past_the_end(asked.offset, asked.length),
             Refusal::ManyNames => self.too_many_names(asked.numbers.len()),
             Refusal::NeverIssued => asked.numbers.iter().any(|&n| self.never_issued(table, n)),
-            Refusal::NoNumberLeft => table.next == LAST_NUMBER + 1,
-            Refusal::NoFreeSlot => self.lowest_free_slot(table).is_none(),
+            Refusal::NoNumberLeft => {
+                table.next == LAST_NUMBER + 1 && self.joined(table, asked.block).is_none()
+            }
+            Refusal::NoFreeSlot => {
+                self.lowest_free_slot(table).is_none() && self.joined(table, asked.block).is_none()
+            }
             Refusal::NoFreeRoom => {
                 !self.would_be_hard(table, asked.block) && self.lowest_free_room(table).is_none()
             }
@@ -125,14 +135,14 @@ pub trait Model {
     /// The table that open gives, granted or refused.
     fn open(&self, first: u32) -> (Result<(), Refusal>, Table) {
         let asked = Asked { numbers: &[first], ..Asked::default() };
-        let judged = self.judge(Kind::Open, &Table::empty(1), &asked);
+        let judged = self.judge(Kind::Open, &Table::empty(self.setting(), 1), &asked);
         let opened = if judged.is_ok() { first } else { 1 };
-        (judged, Table::empty(opened))
+        (judged, Table::empty(self.setting(), opened))
     }
 
     // ---- Create ----
 
-    /// Answers the new patch's number and its state: hard, or soft with its room.
+    /// Answers the number of the patch that has the change now, and that patch's state: hard, or soft with its room.
     fn create(
         &self,
         table: &mut Table,
@@ -141,32 +151,64 @@ pub trait Model {
         change: &Change,
     ) -> Result<(u32, State), Refusal> {
         let asked = Asked {
-            sizes_wrong: image.len() != IMAGE_BYTES || undo.len() != UNDO_BYTES,
+            sizes_wrong: image.len() != IMAGE_BYTES || undo.len() != undo_bytes(table.setting),
             block: change.block,
             offset: change.offset,
             length: change.data.len(),
             numbers: change.named,
         };
         self.judge(Kind::Create, table, &asked)?;
+        let start = block_start(change.block) + change.offset as usize;
+        let slot = match self.joined(table, change.block) {
+            Some(slot) => {
+                self.join(table, slot, change);
+                slot
+            }
+            None => {
+                let old: Vec<u8> = image.iter().skip(start).take(change.data.len()).copied().collect();
+                self.add(table, undo, change, &old)?
+            }
+        };
+        put(image, start, change.data);
+        Ok((table.slots[slot].number, table.slots[slot].state))
+    }
+
+    /// The slot of the patch that a creation on the block joins: of those that wait the one with the lowest number, where the
+    /// creation would be hard. None where it makes a patch of its own.
+    fn joined(&self, table: &Table, block: u32) -> Option<usize> {
+        let may = table.setting.joins() && self.would_be_hard(table, block);
+        table.waiting(block).into_iter().filter(|_| may).min_by_key(|&slot| table.slots[slot].number)
+    }
+
+    /// The change is the joined patch's from now on: it goes where that goes, and that follows what the change must follow.
+    fn join(&self, table: &mut Table, slot: usize, change: &Change) {
+        let gained = self.gained(table, change);
+        self.turn_waiting_soft_hard(table, change.block);
+        table.slots[slot].befores.extend(gained);
+    }
+
+    /// The befores that a change brings to the patch it joins: on other blocks alone, since a block's hard patches leave together.
+    fn gained(&self, table: &Table, change: &Change) -> Slots {
+        self.named(table, change).into_iter().filter(|&i| table.slots[i].block != change.block).collect()
+    }
+
+    /// A patch of its own, in the lowest free slot; soft, it keeps the old bytes.
+    fn add(&self, table: &mut Table, undo: &mut [u8], change: &Change, old: &[u8]) -> Result<usize, Refusal> {
         let slot = self.lowest_free_slot(table).ok_or(Refusal::NoFreeSlot)?;
         let befores = self.befores(table, change);
-        let start = block_start(change.block) + change.offset as usize;
         let state = if self.would_be_hard(table, change.block) {
             self.turn_waiting_soft_hard(table, change.block);
             State::WaitingHard
         } else {
             let room = self.lowest_free_room(table).ok_or(Refusal::NoFreeRoom)?;
-            let old: Vec<u8> = image.iter().skip(start).take(change.data.len()).copied().collect();
-            self.keep_old_bytes(undo, room, &old);
+            self.keep_old_bytes(undo, room, old);
             State::WaitingSoft { room }
         };
-        put(image, start, change.data);
-        let number = table.next;
-        let length = change.data.len() as u32;
+        let (number, length) = (table.next, change.data.len() as u32);
         table.slots[slot] =
             Slot { state, number, block: change.block, offset: change.offset, length, befores };
         table.next += 1;
-        Ok((number, state))
+        Ok(slot)
     }
 
     fn lowest_free_slot(&self, table: &Table) -> Option<usize> {
@@ -175,14 +217,26 @@ pub trait Model {
 
     fn lowest_free_room(&self, table: &Table) -> Option<u32> {
         let taken = table.rooms_taken();
-        (0..ROOMS).find(|room| !taken.contains(room))
+        (0..table.setting.rooms()).find(|room| !taken.contains(room))
     }
 
-    /// The slots of the named numbers that have not committed, and of all patches it overlaps.
+    /// What a new patch follows: the named ones, those it overlaps, and every hard one of its block. Judged before any turns hard.
     fn befores(&self, table: &Table, change: &Change) -> Slots {
-        let named = change.named.iter().filter_map(|&number| table.slot_of(number));
         let overlapped = table.patches().filter(|(_, p)| self.overlaps(p, change)).map(|(i, _)| i);
-        named.chain(overlapped).collect()
+        let mut befores: Slots = overlapped.collect();
+        befores.extend(self.named(table, change));
+        befores.extend(self.hard_ones(table, change.block));
+        befores
+    }
+
+    /// The slots of the named numbers that have not committed.
+    fn named(&self, table: &Table, change: &Change) -> Slots {
+        change.named.iter().filter_map(|&number| table.slot_of(number)).collect()
+    }
+
+    /// The block's hard patches, waiting or in flight. The range of one does not tell where the changes went that joined it.
+    fn hard_ones(&self, table: &Table, block: u32) -> Slots {
+        table.patches().filter(|(_, p)| p.block == block && p.hard()).map(|(i, _)| i).collect()
     }
 
     /// Waiting or in flight, of the same block, with a byte in common.
@@ -198,7 +252,8 @@ pub trait Model {
     /// No patch on another block has a waiting patch of this block among its befores.
     fn would_be_hard(&self, table: &Table, block: u32) -> bool {
         let waiting = table.waiting(block);
-        !table.patches().any(|(_, p)| p.block != block && !p.befores.is_disjoint(&waiting))
+        !table.setting.all_soft()
+            && !table.patches().any(|(_, p)| p.block != block && !p.befores.is_disjoint(&waiting))
     }
 
     fn turn_waiting_soft_hard(&self, table: &mut Table, block: u32) {
@@ -223,7 +278,8 @@ pub trait Model {
         handed: &mut [u8],
         block: u32,
     ) -> Result<Slots, Refusal> {
-        let lent = [(image.len(), IMAGE_BYTES), (undo.len(), UNDO_BYTES), (handed.len(), BLOCK_BYTES)];
+        let undo_size = undo_bytes(table.setting);
+        let lent = [(image.len(), IMAGE_BYTES), (undo.len(), undo_size), (handed.len(), BLOCK_BYTES)];
         let sizes_wrong = lent.iter().any(|(size, exact)| size != exact);
         self.judge(Kind::Write, table, &Asked { sizes_wrong, block, ..Asked::default() })?;
         let sent = self.largest_that_may_go(table, block);
@@ -366,7 +422,16 @@ fn all_different(numbers: impl Iterator<Item = u32>) -> bool {
     numbers.all(|number| seen.insert(number))
 }
 
-/// The model as document 01 has it.
+/// The model as the papers have it, on the board.
 pub struct Right;
 
 impl Model for Right {}
+
+/// The same under another setting.
+pub struct Under(pub Setting);
+
+impl Model for Under {
+    fn setting(&self) -> Setting {
+        self.0
+    }
+}

@@ -1,13 +1,12 @@
 //! What the model is about: sizes, the table with its slots, and what is asked of it.
 
+use crate::model::setting::Setting;
 use std::collections::BTreeSet;
 
 pub const SLOTS: usize = 64;
 pub const LAST_BLOCK: u32 = 63;
 pub const BLOCK_BYTES: usize = 256;
 pub const IMAGE_BYTES: usize = 16_384;
-pub const UNDO_BYTES: usize = 1_024;
-pub const ROOMS: u32 = 16;
 pub const ROOM_BYTES: usize = 64;
 pub const LONGEST_DATA: usize = 64;
 pub const MOST_NAMED: usize = 8;
@@ -16,6 +15,11 @@ pub const LAST_NUMBER: u32 = 1_000_000_000;
 pub const FEW: usize = 6;
 
 pub type Slots = BTreeSet<usize>;
+
+/// The undo area's exact size: so many rooms as the setting has.
+pub fn undo_bytes(setting: Setting) -> usize {
+    ROOM_BYTES * setting.rooms() as usize
+}
 
 /// The refusals of document 01, by their numbers.
 #[derive(Clone, Copy, PartialEq, Eq, PartialOrd, Ord, Debug)]
@@ -64,6 +68,8 @@ pub struct Slot {
 
 #[derive(Clone, PartialEq, Eq, Debug)]
 pub struct Table {
+    /// What open gave it and every call keeps. The table's bytes do not have it.
+    pub setting: Setting,
     pub first: u32,
     pub next: u32,
     pub slots: Vec<Slot>,
@@ -154,6 +160,10 @@ impl Slot {
         matches!(self.state, State::InFlightHard | State::InFlightSoft)
     }
 
+    pub fn hard(&self) -> bool {
+        matches!(self.state, State::WaitingHard | State::InFlightHard)
+    }
+
     pub fn room(&self) -> Option<u32> {
         match self.state {
             State::WaitingSoft { room } => Some(room),
@@ -168,8 +178,8 @@ impl Slot {
 }
 
 impl Table {
-    pub fn empty(first: u32) -> Table {
-        Table { first, next: first, slots: vec![Slot::free(); SLOTS] }
+    pub fn empty(setting: Setting, first: u32) -> Table {
+        Table { setting, first, next: first, slots: vec![Slot::free(); SLOTS] }
     }
 
     /// The used slots with what they hold.

@@ -21,7 +21,7 @@ fn spoil_once(random: &mut Random, table: &Table, mut step: Step) -> Step {
             2 => *offset = wrong_offset(random, data.len()),
             3 => *named = many_names(random, table),
             4 => named.push(wrong_number(random, table)),
-            _ => return lend_oddly(random, step, &[Buffer::Image, Buffer::Undo, Buffer::Table]),
+            _ => return lend_oddly(random, table, step, &[Buffer::Image, Buffer::Undo, Buffer::Table]),
         },
         Call::Write { block } => {
             if random.percent(30) {
@@ -29,6 +29,7 @@ fn spoil_once(random: &mut Random, table: &Table, mut step: Step) -> Step {
             } else {
                 return lend_oddly(
                     random,
+                    table,
                     step,
                     &[Buffer::Image, Buffer::Undo, Buffer::Handed, Buffer::Table],
                 );
@@ -38,14 +39,14 @@ fn spoil_once(random: &mut Random, table: &Table, mut step: Step) -> Step {
             if random.percent(60) {
                 *block = wrong_block(random);
             } else {
-                return lend_oddly(random, step, &[Buffer::Table]);
+                return lend_oddly(random, table, step, &[Buffer::Table]);
             }
         }
         Call::Ask { number } => {
             if random.percent(80) {
                 *number = wrong_number(random, table);
             } else {
-                return lend_oddly(random, step, &[Buffer::Table]);
+                return lend_oddly(random, table, step, &[Buffer::Table]);
             }
         }
     }
@@ -82,12 +83,12 @@ fn many_names(random: &mut Random, table: &Table) -> Vec<u32> {
     (0..count).map(|_| random.between(table.first, last)).collect()
 }
 
-fn lend_oddly(random: &mut Random, step: Step, buffers: &[Buffer]) -> Step {
+fn lend_oddly(random: &mut Random, table: &Table, step: Step, buffers: &[Buffer]) -> Step {
     let which = random.pick(buffers);
     if step.odd.iter().any(|&(other, _)| other == which) {
         return step;
     }
-    let exact = exact_size(which);
+    let exact = exact_size(table.setting, which);
     let size = random.pick(&[0, exact / 2, exact - 1, exact + 1, exact * 2]);
     step.lending(which, size)
 }

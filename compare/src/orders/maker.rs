@@ -1,9 +1,7 @@
 //! Makes call orders from a seed. The next call is chosen with an eye on the table as it stands,
-//! so that orders reach full slots, full rooms, overlaps, chains over blocks and every refusal.
+//! so that orders reach full slots, full rooms, overlaps, chains over blocks, joins and every refusal.
 
-use crate::model::table::{
-    BLOCK_BYTES, Kind, LAST_BLOCK, LAST_NUMBER, LONGEST_DATA, MOST_NAMED, ROOMS, Table,
-};
+use crate::model::table::{BLOCK_BYTES, Kind, LAST_BLOCK, LAST_NUMBER, LONGEST_DATA, MOST_NAMED, Table};
 use crate::orders::faults;
 use crate::orders::random::Random;
 use crate::orders::steps::{Step, ask, complete, count, create, open, write};
@@ -15,12 +13,14 @@ const KINDS_CHOSEN: [Kind; 5] = [Kind::Create, Kind::Write, Kind::Complete, Kind
 #[derive(Clone, Debug)]
 pub struct Taste {
     pub blocks: Vec<u32>,
+    /// Percent of the changes that look for a block where none waits: they join nothing, and the table fills.
+    pub fresh: u32,
     /// Changes start at an offset below this.
     pub span: u32,
     pub longest: u32,
     /// Percent of the changes that name numbers.
     pub naming: u32,
-    /// Each change names the one made last.
+    /// Each change names the number issued last.
     pub chain: bool,
     /// How often each of the calls in `KINDS_CHOSEN` comes.
     pub weights: [u32; KINDS_CHOSEN.len()],
@@ -43,21 +43,26 @@ impl Taste {
         let few = 2 + random.below(4);
         let blocks = some_blocks(random, few);
         let (span, longest, faults) = (64, 12, 6);
+        let (fresh, naming, chain) = (0, 50, false);
         let mixed =
-            Taste { blocks, span, longest, naming: 50, chain: false, weights: [45, 22, 22, 6, 5], faults };
-        match random.below(7) {
+            Taste { blocks, fresh, span, longest, naming, chain, weights: [45, 22, 22, 6, 5], faults };
+        let all: Vec<u32> = (0..=LAST_BLOCK).collect();
+        match random.below(9) {
             0 => Taste { naming: 0, weights: [90, 3, 3, 2, 2], ..mixed },
             1 => Taste { blocks: some_blocks(random, 2), naming: 70, weights: [80, 8, 8, 2, 2], ..mixed },
             2 => Taste { chain: true, naming: 90, weights: [55, 20, 20, 3, 2], ..mixed },
             3 => Taste { span: 10, longest: 8, naming: 60, ..mixed },
             4 => Taste {
-                blocks: (0..=LAST_BLOCK).collect(),
+                blocks: all,
+                fresh: 50,
                 span: BLOCK_BYTES as u32,
                 longest: LONGEST_DATA as u32,
                 weights: [60, 15, 15, 5, 5],
                 ..mixed
             },
             5 => Taste { weights: [70, 14, 10, 3, 3], naming: 65, ..mixed },
+            6 => Taste { blocks: all, fresh: 85, naming: 25, weights: [80, 12, 4, 2, 2], ..mixed },
+            7 => Taste { blocks: some_blocks(random, 40), fresh: 60, weights: [85, 8, 3, 2, 2], ..mixed },
             _ => mixed,
         }
     }
@@ -76,7 +81,7 @@ pub fn first_number(random: &mut Random) -> u32 {
 
 /// All slots or all rooms are taken.
 fn crowded(table: &Table) -> bool {
-    table.slots.iter().all(|slot| slot.used()) || table.rooms_taken().len() == ROOMS as usize
+    table.slots.iter().all(|slot| slot.used()) || table.rooms_taken().len() == table.setting.rooms() as usize
 }
 
 fn none_in_flight(table: &Table) -> bool {
@@ -125,7 +130,7 @@ impl Maker {
     }
 
     fn create(&mut self, table: &Table) -> Step {
-        let block = self.random.pick(&self.taste.blocks);
+        let block = self.block_where(&|b| table.waiting(*b).is_empty(), self.taste.fresh);
         let length = match self.random.below(20) {
             0 => LONGEST_DATA as u32,
             1 => 1,

@@ -2,7 +2,8 @@
 
 use crate::library::calls::Library;
 use crate::model::bytes::TABLE_BYTES;
-use crate::model::table::{BLOCK_BYTES, IMAGE_BYTES, Kind, UNDO_BYTES};
+use crate::model::setting::Setting;
+use crate::model::table::{BLOCK_BYTES, IMAGE_BYTES, Kind, undo_bytes};
 use crate::orders::random::Random;
 
 #[derive(Clone, PartialEq, Debug)]
@@ -143,13 +144,13 @@ pub struct Lent {
 
 impl Lent {
     /// Image, undo area and block handed out filled from a seed; all zero for seed 0.
-    pub fn filled(table: &[u8], seed: u64) -> Lent {
+    pub fn filled(setting: Setting, table: &[u8], seed: u64) -> Lent {
         let mut random = Random::new(seed);
         let mut fill = |size| if seed == 0 { vec![0; size] } else { random.bytes(size) };
         Lent {
             table: table.to_vec(),
             image: fill(IMAGE_BYTES),
-            undo: fill(UNDO_BYTES),
+            undo: fill(undo_bytes(setting)),
             handed: fill(BLOCK_BYTES),
         }
     }
@@ -171,11 +172,11 @@ impl Lent {
     }
 }
 
-pub fn exact_size(which: Buffer) -> usize {
+pub fn exact_size(setting: Setting, which: Buffer) -> usize {
     match which {
         Buffer::Table => TABLE_BYTES,
         Buffer::Image => IMAGE_BYTES,
-        Buffer::Undo => UNDO_BYTES,
+        Buffer::Undo => undo_bytes(setting),
         Buffer::Handed => BLOCK_BYTES,
     }
 }

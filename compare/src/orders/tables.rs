@@ -2,7 +2,8 @@
 //! waiting, remains in free slots), and ones with a single clause of soundness broken.
 
 use crate::model::bytes::{SLOT_BYTES, TABLE_BYTES, encoded};
-use crate::model::table::{LAST_NUMBER, SLOTS, Slot, Slots, State, Table};
+use crate::model::setting::Setting;
+use crate::model::table::{LAST_BLOCK, LAST_NUMBER, SLOTS, Slot, Slots, State, Table};
 use crate::orders::maker::first_number;
 use crate::orders::random::Random;
 
@@ -19,13 +20,14 @@ struct Likes {
 impl Likes {
     fn of_seed(random: &mut Random) -> Likes {
         let count = 1 + random.below(5);
-        let blocks: Vec<u32> = (0..count).map(|_| random.pick(&[0, 1, 2, 31, 62, 63])).collect();
+        let few: Vec<u32> = (0..count).map(|_| random.pick(&[0, 1, 2, 31, 62, 63])).collect();
+        let blocks = if random.percent(15) { (0..=LAST_BLOCK).collect() } else { few };
         let flying = blocks.iter().copied().filter(|_| random.percent(35)).collect();
         Likes {
             blocks,
             flying,
-            used: random.pick(&[5, 20, 40, 80, 97, 100]),
-            soft: random.pick(&[0, 20, 60, 95]),
+            used: random.pick(&[5, 20, 40, 80, 90, 97, 100]),
+            soft: random.pick(&[0, 20, 60, 90, 95, 100]),
             befores: random.pick(&[0, 1, 2, 5, 20]),
             remains: random.percent(50),
         }
@@ -51,15 +53,15 @@ fn some_numbers(random: &mut Random, first: u32, next: u32) -> Vec<u32> {
     places.into_iter().map(|place| first + place).collect()
 }
 
-pub fn sound(random: &mut Random) -> Table {
+pub fn sound(random: &mut Random, setting: Setting) -> Table {
     let likes = Likes::of_seed(random);
     let issued = random.pick(&ISSUED);
     let first =
         if issued > 3_000 { random.between(1, 1 + LAST_NUMBER - issued) } else { first_number(random) };
     let next = (first + issued).min(LAST_NUMBER + 1);
-    let mut table = Table { first, next, slots: vec![Slot::free(); SLOTS] };
+    let mut table = Table { next, ..Table::empty(setting, first) };
     let mut numbers = some_numbers(random, first, next);
-    let mut rooms: Vec<u32> = (0..16).collect();
+    let mut rooms: Vec<u32> = (0..setting.rooms()).collect();
     random.shuffle(&mut rooms);
     for i in 0..SLOTS {
         if random.percent(likes.used)
@@ -70,7 +72,7 @@ pub fn sound(random: &mut Random) -> Table {
             table.slots[i] = remains(random);
         }
     }
-    if random.percent(25) {
+    if random.percent(40) {
         add_chains(random, &mut table);
     } else {
         add_befores(random, &likes, &mut table);
@@ -120,8 +122,9 @@ fn add_chains(random: &mut Random, table: &mut Table) {
     let mut used: Vec<usize> = table.patches().map(|(i, _)| i).collect();
     random.shuffle(&mut used);
     used.sort_by_key(|&slot| table.slots[slot].block);
+    let links = random.pick(&[85, 97]);
     for pair in used.windows(2) {
-        if random.percent(85) {
+        if random.percent(links) {
             table.slots[pair[0]].befores.insert(pair[1]);
         }
     }
@@ -152,12 +155,14 @@ pub const BREAKS: [Break; 16] = [
     Break {
         name: "first above 1,000,000,000",
         values: &[LAST_NUMBER + 1, 1 << 30 | 1, 1 << 31 | 1, u32::MAX],
-        apply: |t, _, _, v| *t = Table::empty(v),
+        apply: |t, _, _, v| *t = Table::empty(t.setting, v),
     },
     Break {
         name: "next below first by",
         values: &[1, 2, 256, 65_536],
-        apply: |t, _, _, v| *t = Table { next: t.first.saturating_sub(v), ..Table::empty(t.first) },
+        apply: |t, _, _, v| {
+            *t = Table { next: t.first.saturating_sub(v), ..Table::empty(t.setting, t.first) }
+        },
     },
     Break {
         name: "next above 1,000,000,001",
@@ -213,9 +218,29 @@ pub const BREAKS: [Break; 16] = [
         },
     },
     Break {
-        name: "room above 15",
-        values: &[16, 17, 31, 32, 48, 63, 64, 79, 255, 256, 257, 65_535, 65_536, 1 << 24, 1 << 31, u32::MAX],
-        apply: |t, i, _, v| t.slots[i].state = State::WaitingSoft { room: v },
+        name: "room past the last by",
+        values: &[
+            1,
+            2,
+            16,
+            17,
+            33,
+            48,
+            49,
+            64,
+            240,
+            241,
+            242,
+            65_520,
+            65_521,
+            16_777_201,
+            2_147_483_633,
+            u32::MAX,
+        ],
+        apply: |t, i, _, v| {
+            let room = (t.setting.rooms() - 1).saturating_add(v);
+            t.slots[i].state = State::WaitingSoft { room };
+        },
     },
     Break {
         name: "room shared",
@@ -236,9 +261,9 @@ fn empty_slot(table: &mut Table, slot: usize) -> Slot {
 }
 
 /// A table broken in one way.
-pub fn broken(random: &mut Random, which: &Break) -> Table {
+pub fn broken(random: &mut Random, setting: Setting, which: &Break) -> Table {
     loop {
-        let mut table = sound(random);
+        let mut table = sound(random, setting);
         let mut used: Vec<usize> = table.patches().map(|(i, _)| i).collect();
         random.shuffle(&mut used);
         if let [i, j, ..] = used[..] {
@@ -248,7 +273,7 @@ pub fn broken(random: &mut Random, which: &Break) -> Table {
     }
 }
 
-/// A sound table with every slot in use and every room taken, far from all bounds.
+/// A sound table of the board with every slot in use and every room taken, far from all bounds.
 pub fn full() -> Table {
     let slot = |i: usize| {
         let state = match i % 4 {
@@ -267,12 +292,13 @@ pub fn full() -> Table {
             befores: Slots::from([i ^ 1]),
         }
     };
-    Table { first: 90_000, next: 300_000, slots: (0..SLOTS).map(slot).collect() }
+    let setting = Setting::Board;
+    Table { setting, first: 90_000, next: 300_000, slots: (0..SLOTS).map(slot).collect() }
 }
 
 /// Bytes that are no table: a tag above 4 in one slot, used or free.
-pub fn bad_tag(random: &mut Random) -> Vec<u8> {
-    let mut bytes = encoded(&sound(random));
+pub fn bad_tag(random: &mut Random, setting: Setting) -> Vec<u8> {
+    let mut bytes = encoded(&sound(random, setting));
     let tag: u32 = random.pick(&[5, 6, 255, 256, 1 << 24, u32::MAX]);
     let at = 8 + random.below(SLOTS) * SLOT_BYTES;
     bytes[at..at + 4].copy_from_slice(&tag.to_le_bytes());
