@@ -8,12 +8,13 @@ use native.Mathlib.Decide.{ℕ-discrete}
 use native.Mathlib.Omega.{arith}
 use borrow.Author.Tests.{ne-eqb}
 use lib.Dec.{eqb}
+use Rattle.rules.specs.declared.Setting.the-variants.{Board}
 use Rattle.rules.specs.declared.AskAnswer.{AskAnswer}
 use Rattle.rules.specs.declared.AskAnswer.the-variants as ask
 use Rattle.rules.specs.Table.{Table}
 use Rattle.rules.specs.Create.{Change}
 use Rattle.rules.specs.Ask.{askWord}
-use Rattle.rules.specs.Calls.{Opening, Creation, Creates, createNumber, createRefused, createGranted, sentSet}
+use Rattle.rules.specs.Calls.{Opening, Creation, Creates, Accepts, createNumber, createRefused, createGranted, createJoined, sentSet}
 use Rattle.rules.specs.Calls.{Writing, Writes, writeNumber, writeRefused, writeGranted}
 use Rattle.rules.specs.Calls.{Completion, Completes, plainNumber, completeRefused, completeGranted, Asks}
 use Rattle.demands.specs.History as history
@@ -49,13 +50,19 @@ module _ (r : Run) where
           → let x = createRefused t (r .image) (r .undo) k in meant (runCreate r c (createEnd (r .bytes) x)) ≡ history.afterCreate (meant r) c x
       refused k d = rw (ne-eqb k 0 d)
 
+      Same : Creation → Type 0
+      Same x = tableIn (bytesOf (x .table)) ≡ x .table → meant (runCreate r c (createEnd (r .bytes) x)) ≡ history.afterCreate (meant r) c x
+
+      -- granted, the change has taken a slot or joined a patch
+      granted : Accepts t (r .image) (r .undo) c o → Same o
+      granted (Accepts.takes own a) =
+          subst Same (sym (a .whole))
+          (λ e. ap (withTable (history.afterCreate (meant r) c (createGranted t (r .image) (r .undo) c (a .slot) (a .hold)))) e)
+      granted (Accepts.joins does a) =
+          subst Same (sym (a .whole)) (λ e. ap (withTable (history.afterCreate (meant r) c (createJoined t (r .image) (r .undo) c (a .slot)))) e)
+
       by : Dec (createNumber (o .answer) ≡ 0) → meant (runCreate r c (createEnd (r .bytes) o)) ≡ history.afterCreate (meant r) c o
-      by (yes z) =
-          let a = p .grant z in
-          let granted = createGranted t (r .image) (r .undo) c (a .slot) (a .hold) in
-          subst
-          (λ (x : Creation). tableIn (bytesOf (x .table)) ≡ x .table → meant (runCreate r c (createEnd (r .bytes) x)) ≡ history.afterCreate (meant r) c x)
-          (sym (a .whole)) (λ e. ap (withTable (history.afterCreate (meant r) c granted)) e) (kept z)
+      by (yes z) = granted (p .grant z) (kept z)
       by (no d) =
           subst (λ (x : Creation). meant (runCreate r c (createEnd (r .bytes) x)) ≡ history.afterCreate (meant r) c x) (sym (p .refusal d)) (refused _ d)
 
@@ -169,7 +176,7 @@ means (HasRun.opens memory store undo first k after l p s) =
     let kept = open-kept first o (q .1) in
     subst (λ (x : List ℕ). Good (runBegun x store undo) × history.Happened (meant (runBegun x store undo))) (sym (q .3)) (
       record { is-table = kept .1; in-bytes = bytes-of (o .table) },
-      subst history.Happened (sym (begun-means o store undo (kept .0))) (history.Happened.opens first o store undo (q .1) s),
+      subst history.Happened (sym (begun-means o store undo (kept .0))) (history.Happened.opens Board first o store undo (q .1) s),
     )
 means (HasRun.calls w c) = let g = means w in let s = step (g .0) c in (s .after, history.Happened.calls (g .1) (s .call))
 
