@@ -235,25 +235,46 @@ fn join_adds_befores() -> Vec<Row> {
     ]
 }
 
-/// A patch in flight is not joined, and names of the change's own block bring nothing.
-fn join_names_its_block() -> Vec<Row> {
+/// A patch in flight is not joined: the change makes a patch of its own, which follows it; the next one joins that.
+fn beside_one_in_flight() -> Vec<Row> {
     vec![
         ("open", open(1), granted()),
         ("1 on block 1", create(1, 0, &[10; 4], &[]), hard(1)),
         ("1 goes", write(1), sends(&[0], &[(4, 10)])),
         ("1 in flight is not joined, but followed", create(1, 8, &[20; 4], &[]), hard(2).following(1, &[0])),
+        ("2 is joined", create(1, 0, &[30; 2], &[1]), hard(2).following(1, &[0])),
+        ("2 waits alone", count(1), counts(1)),
         ("1 has landed", complete(1), granted().following(1, &[])),
-        ("2 goes", write(1), sends(&[1], &[(4, 10), (4, 0), (4, 20)])),
-        ("3 after 2 in flight", create(1, 16, &[30; 2], &[]), hard(3).following(0, &[1])),
-        ("4 on block 2 after 3", create(2, 0, &[40], &[3]), hard(4)),
-        ("5 on block 1 after 4 is soft", create(1, 20, &[50], &[4]), soft(5, 0).following(3, &[0, 1, 2])),
-        ("2 has landed", complete(1), granted().following(3, &[0, 2])),
-        ("3 goes", write(1), sends(&[0], &[(4, 10), (4, 0), (4, 20), (4, 0), (2, 30)])),
-        ("joins 5, names 3 and 5", create(1, 30, &[51], &[3, 5]), hard(5).following(3, &[0, 2])),
-        ("joins 5, names 3 in flight", create(1, 31, &[52], &[3]), hard(5).following(3, &[0, 2])),
-        ("3 has landed", complete(1), granted().following(3, &[2])),
-        ("joins 5, names 5 alone", create(1, 32, &[53], &[5]), hard(5).following(3, &[2])),
+        ("2 goes with both changes", write(1), sends(&[1], &[(2, 30), (2, 10), (4, 0), (4, 20)])),
     ]
+}
+
+/// Names of the change's own block bring nothing to the patch it joins: 4 is in flight, 5 waits, 3 is joined itself.
+fn join_names_its_block() -> Vec<Row> {
+    vec![
+        ("open", open(1), granted()),
+        ("1 on block 1", create(1, 0, &[10; 4], &[]), hard(1)),
+        ("2 on block 2 after 1", create(2, 0, &[20], &[1]), hard(2)),
+        ("3 on block 1 after 2", create(1, 8, &[30; 4], &[2]), soft(3, 0).following(2, &[0, 1])),
+        ("4 on block 1", create(1, 16, &[40; 4], &[]), soft(4, 1).following(3, &[0])),
+        ("5 on block 1 after 2", create(1, 24, &[50; 4], &[2]), soft(5, 2).following(4, &[0, 1])),
+        ("1 and 4 go", write(1), sends(&[0, 3], &[(4, 10), (12, 0), (4, 40)])),
+        ("joins 3, names 4 in flight", create(1, 32, &[31], &[4]), hard(3).following(2, &[0, 1])),
+        ("joins 3, names 5 that waits", create(1, 33, &[32], &[5]), hard(3).following(2, &[0, 1])),
+        ("joins 3, names 3 itself", create(1, 34, &[33], &[3, 1]), hard(3).following(2, &[0, 1])),
+        ("1 and 4 have landed", complete(1), granted().following(2, &[1])),
+        ("joins 3, names committed ones", create(1, 35, &[34], &[4, 1]), hard(3).following(2, &[1])),
+        ("13: 3 and 5 follow 2", write(1), refused(13)),
+        ("2 goes", write(2), sends(&[1], &[(1, 20)])),
+        ("2 has landed", complete(2), granted().following(2, &[])),
+        ("3 and 5 go", write(1), sends(&[2, 4], &joined_bytes())),
+    ]
+}
+
+/// Block 1 at the end of the case above.
+fn joined_bytes() -> Vec<(usize, u8)> {
+    let patches = [10, 30, 40, 50].into_iter().flat_map(|byte| [(4, byte), (4, 0)]);
+    patches.chain([(1, 31), (1, 32), (1, 33), (1, 34)]).collect()
 }
 
 /// Soft patches that turned hard are joined: the lowest number of them answers, their rooms are free again.
@@ -453,6 +474,7 @@ fn all() -> Vec<Case> {
         case("one slot for many changes", one_slot()),
         case("full slots", full_slots()),
         case("a join that adds befores", join_adds_befores()),
+        case("beside one in flight", beside_one_in_flight()),
         case("a join that names its own block", join_names_its_block()),
         case("a join after soft ones turned hard", join_after_turning()),
         case("over a joined change", over_a_joined_change()),

@@ -333,3 +333,57 @@ fn carry(store: &mut [u8], from: usize, bytes: &[u8]) {
         *place = *byte;
     }
 }
+
+#[cfg(test)]
+mod tests {
+    use super::*;
+    use crate::orders::steps::{create, write};
+
+    /// A history of an all zero image in which 1 waits on block 1, and 2 on block 2.
+    fn two_wait(setting: Setting) -> History {
+        let mut history = History::opened(setting, &[0; 64 * BLOCK_BYTES]);
+        for number in [1, 2] {
+            assert_eq!(given(&mut history, number, number, 1), Ok(()));
+        }
+        history
+    }
+
+    /// A change of one byte on a block, each at another offset, answered a number and a hold.
+    fn given(history: &mut History, block: u32, number: u32, hold: u32) -> Result<(), String> {
+        let answer = Answer { number, hold, ..Answer::default() };
+        let offset = history.accepted.len() as u32;
+        history.record(&create(block, offset, &[7], &[]).call, &answer, &[], &mut Cover::default())
+    }
+
+    fn sent(history: &mut History, block: u32, set: u64, handed: &[u8]) -> Result<(), String> {
+        let answer = Answer { set, ..Answer::default() };
+        history.record(&write(block).call, &answer, handed, &mut Cover::default())
+    }
+
+    #[test]
+    fn a_number_is_given_again_only_where_it_waits() {
+        let board = || two_wait(Setting::Board);
+        assert_eq!(given(&mut board(), 1, 1, 1), Ok(()));
+        assert!(given(&mut board(), 1, 1, 2).is_err(), "a soft change");
+        assert!(given(&mut board(), 1, 2, 1).is_err(), "a number of another block");
+        assert!(given(&mut two_wait(Setting::HardRule), 1, 1, 1).is_err(), "no joining");
+        let mut later = board();
+        assert_eq!(given(&mut later, 1, 3, 2), Ok(()));
+        assert!(given(&mut later, 1, 3, 1).is_err(), "not the lowest that waits");
+        let mut flying = board();
+        assert_eq!(sent(&mut flying, 1, 1, &[0; BLOCK_BYTES]), Ok(()));
+        assert!(given(&mut flying, 1, 1, 1).is_err(), "a number in flight");
+    }
+
+    #[test]
+    fn the_changes_of_a_number_land_together() {
+        let mut handed = [0; BLOCK_BYTES];
+        for (offset, whole) in [(0, false), (2, true)] {
+            handed[offset] = 7;
+            let mut history = two_wait(Setting::Board);
+            assert_eq!(given(&mut history, 1, 1, 1), Ok(()));
+            assert_eq!(sent(&mut history, 1, 1, &handed), Ok(()));
+            assert_eq!(history.cut(&mut Cover::default()).is_ok(), whole);
+        }
+    }
+}
