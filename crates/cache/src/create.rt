@@ -164,8 +164,9 @@ impl Table {
         let s = slots[j];
         put(image, place(block, offset), bytes);
         let more = added(slots, block, named);
+        let next = self.with_slots(joined(slots, block, more, j));
         Created {
-            table: self.with_slots(joined(slots, block, more, j)),
+            table: next,
             answer: CreateAnswer::Granted(s.number, Hold::Hard),
         }
     }

@@ -3,12 +3,15 @@ use crate::say;
 use crate::say::Row;
 use cache::types::Table;
 use rules::Answer;
+use rules::CountAnswer;
 use rules::CreateAnswer;
 use rules::Hold;
+use rules::Setting;
 use rules::State;
 use rules::WriteAnswer;
 use rules::sizes::BLOCK_BYTES;
 use rules::sizes::IMAGE_BYTES;
+use rules::sizes::LAST_SLOT;
 use rules::sizes::UNDO_BYTES;
 
 fn refused(k: u32) {
@@ -31,7 +34,7 @@ fn granted_or(a: Answer) {
 }
 
 pub fn open(row: Row, first: u32) -> Table {
-    let o = Table::open(first);
+    let o = Table::open(Setting::Board, first);
     let answer = o.answer;
     let table = o.table;
     say::label(row);
@@ -141,12 +144,44 @@ fn state(u: State) {
     }
 }
 
-// No call: the patch in slot 3, as the table has it.
-pub fn slot_3(t: Table, row: Row) {
-    let s = t.slots[3];
+pub fn count(t: Table, row: Row, block: u32) {
+    let answer = t.count(block);
+    say::label(row);
+    say::field(b" count block ", block);
+    say::text(b": ");
+    match answer {
+        CountAnswer::Granted(n) => say::field(b"waiting ", n),
+        CountAnswer::Refused(k) => refused(k),
+    }
+    say::text(b"\n");
+}
+
+// No call: the patch in slot i, as the table has it, with the slots that it follows.
+pub fn slot(t: Table, row: Row, i: usize) {
+    if LAST_SLOT < i {
+        return;
+    }
+    let s = t.slots[i];
     let u = s.state;
     say::label(row);
-    say::field(b" slot 3: number ", s.number);
+    say::text(b" slot");
+    say::set(masks::with(0, i));
+    say::field(b": number ", s.number);
     state(u);
+    say::field(b", offset ", s.offset);
+    say::field(b" length ", s.len);
+    say::text(b", follows slots");
+    say::set(s.befores);
     say::text(b"\n");
+}
+
+// Whether the answer is the number, and hard.
+pub fn is_hard(a: CreateAnswer, number: u32) -> bool {
+    match a {
+        CreateAnswer::Granted(n, h) => match h {
+            Hold::Hard => n == number,
+            Hold::Soft(_) => false,
+        },
+        CreateAnswer::Refused(_) => false,
+    }
 }

@@ -1,4 +1,4 @@
-// "At the edges": each edge at its exact numbers. A row's word says which edge it is.
+// "At the edges": each edge at its exact numbers, as joining leaves it. A row's word says which edge it is.
 use crate::calls;
 use crate::say;
 use crate::say::Row;
@@ -34,6 +34,22 @@ fn many(
     next
 }
 
+// One on each block from `from` up to `to` - 1.
+fn each(
+    t: Table,
+    image: &mut [u8; IMAGE_BYTES],
+    undo: &mut [u8; UNDO_BYTES],
+    row: Row,
+    from: u32,
+    to: u32,
+) -> Table {
+    let mut next = t;
+    for b in from..to {
+        next = one(next, image, undo, row, b, 0);
+    }
+    next
+}
+
 // Offset, length and the numbers named.
 pub fn ranges(image: &mut [u8; IMAGE_BYTES], undo: &mut [u8; UNDO_BYTES]) {
     say::heading(b"At the edges: offset, length, and how many numbers are named");
@@ -47,15 +63,16 @@ pub fn ranges(image: &mut [u8; IMAGE_BYTES], undo: &mut [u8; UNDO_BYTES]) {
     named(t, image, undo);
 }
 
-// 1 has been issued; 2 to 8 are issued here, so that 8 and 9 different numbers can be named.
+// 1 has been issued; 2 to 8 are issued here, each on a block of its own, so that none joins another and 8
+// and 9 different numbers can be named.
 fn named(mut t: Table, image: &mut [u8; IMAGE_BYTES], undo: &mut [u8; UNDO_BYTES]) {
-    t = many(t, image, undo, Row::Named, 3, 7);
+    t = each(t, image, undo, Row::Named, 3, 10);
     t = calls::create(
         t,
         image,
         undo,
         Row::Named,
-        4,
+        10,
         0,
         &[5],
         &[1, 2, 3, 4, 5, 6, 7, 8],
@@ -65,28 +82,64 @@ fn named(mut t: Table, image: &mut [u8; IMAGE_BYTES], undo: &mut [u8; UNDO_BYTES
         image,
         undo,
         Row::Named,
-        4,
+        10,
         1,
         &[5],
         &[1, 2, 3, 4, 5, 6, 7, 8, 9],
     );
-    calls::create(t, image, undo, Row::Named, 4, 1, &[5], &[10]);
+    calls::create(t, image, undo, Row::Named, 10, 1, &[5], &[10]);
 }
 
-// Opened at the last number, one create is granted. Above it nothing opens.
+// Opened at the last number, one create is granted it. The next is granted where it joins, though next
+// is 1,000,000,001, and refused where it would need a number. Above the last number nothing opens.
 pub fn last_number(image: &mut [u8; IMAGE_BYTES], undo: &mut [u8; UNDO_BYTES]) {
     say::heading(b"At the edges: the last number");
     let mut t = calls::open(Row::Last, 1000000000);
-    many(t, image, undo, Row::Last, 0, 2);
+    t = many(t, image, undo, Row::Last, 0, 2);
+    one(t, image, undo, Row::Last, 1, 0);
     calls::open(Row::Last, 1000000001);
     calls::open(Row::Last, 0);
 }
 
-// Sixty-four are all hard, and the sixty-fifth finds no slot.
+// A thousand more on block 0, of which only how many are answered 1 and hard is said.
+fn a_thousand(t: Table, image: &mut [u8; IMAGE_BYTES], undo: &mut [u8; UNDO_BYTES]) -> Table {
+    let mut next = t;
+    let mut n: u32 = 0;
+    for i in 0..1000u32 {
+        let o = next.create(image, undo, 0, i % 256, &[5], &[]);
+        let answer = o.answer;
+        let table = o.table;
+        next = table;
+        if calls::is_hard(answer, 1) {
+            n += 1;
+        }
+    }
+    say::label(Row::Slots);
+    say::field(b" 1000 more on block 0, number 1 hard: ", n);
+    say::text(b"\n");
+    next
+}
+
+// Sixty-four on one block use one slot, and so do the next thousand.
 pub fn slots(image: &mut [u8; IMAGE_BYTES], undo: &mut [u8; UNDO_BYTES]) {
-    say::heading(b"At the edges: sixty-four slots");
+    say::heading(b"At the edges: sixty-four changes on one block use one slot");
     let mut t = calls::open(Row::Slots, 1);
-    many(t, image, undo, Row::Slots, 0, 65);
+    t = many(t, image, undo, Row::Slots, 0, 64);
+    t = a_thousand(t, image, undo);
+    calls::count(t, Row::Slots, 0);
+    calls::slot(t, Row::Slots, 0);
+    calls::slot(t, Row::Slots, 1);
+}
+
+// A patch on each of the 64 blocks, and one of them in flight: a change on that one's block has nothing to
+// join and finds no slot. One on another block joins.
+pub fn no_slot(image: &mut [u8; IMAGE_BYTES], undo: &mut [u8; UNDO_BYTES]) {
+    say::heading(b"At the edges: sixty-four slots");
+    let mut t = calls::open(Row::Full, 1);
+    t = each(t, image, undo, Row::Full, 0, 64);
+    t = calls::write(t, image, undo, Row::Full, 5);
+    t = one(t, image, undo, Row::Full, 5, 1);
+    one(t, image, undo, Row::Full, 6, 1);
 }
 
 // One waits on block 1 and one on block 2 names it. Sixteen more on block 1 are soft, and the

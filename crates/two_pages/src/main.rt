@@ -1,8 +1,9 @@
-// Document 01's examples, run: the session of two pages, its branch and the edges. Each call's
-// whole answer is a line on standard output, to be read beside the paper; `stdout` beside src/ is
-// what it must write.
+// Document 01's examples, with the answers of document 02, request a, run: the session of two pages, its
+// branch and the edges; then examples of joining. Each call's whole answer is a line on
+// standard output, to be read beside the papers; `stdout` beside src/ is what it must write.
 mod calls;
 mod edges;
+mod joins;
 mod pages;
 mod say;
 
@@ -17,5 +18,8 @@ fn main() {
     edges::ranges(&mut image, &mut undo);
     edges::last_number(&mut image, &mut undo);
     edges::slots(&mut image, &mut undo);
+    edges::no_slot(&mut image, &mut undo);
     edges::rooms(&mut image, &mut undo);
+    joins::befores(&mut image, &mut undo);
+    joins::overlap(&mut image, &mut undo);
 }

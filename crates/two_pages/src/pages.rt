@@ -12,7 +12,7 @@ fn to_p4(image: &mut [u8; IMAGE_BYTES], undo: &mut [u8; UNDO_BYTES]) -> Table {
     t = calls::create(t, image, undo, Row::P(1), 1, 0, &[65; 8], &[]);
     t = calls::create(t, image, undo, Row::P(2), 2, 0, &[1; 2], &[1]);
     t = calls::create(t, image, undo, Row::P(3), 2, 2, &[2; 2], &[]);
-    calls::create(t, image, undo, Row::P(4), 1, 8, &[66; 8], &[3])
+    calls::create(t, image, undo, Row::P(4), 1, 8, &[66; 8], &[2])
 }
 
 fn to_p6(mut t: Table, image: &[u8; IMAGE_BYTES], undo: &[u8; UNDO_BYTES]) -> Table {
@@ -29,7 +29,7 @@ fn from_p7(mut t: Table, image: &[u8; IMAGE_BYTES], undo: &[u8; UNDO_BYTES]) -> 
     calls::write(t, image, undo, Row::P(10), 1)
 }
 
-// Write block 1 answers 13 until 3 commits.
+// Write block 1 answers 13 until 2 commits.
 fn from_branch(mut t: Table, image: &[u8; IMAGE_BYTES], undo: &[u8; UNDO_BYTES]) -> Table {
     t = calls::complete(t, Row::Branch, 1);
     t = calls::write(t, image, undo, Row::Branch, 1);
@@ -45,10 +45,12 @@ pub fn session(image: &mut [u8; IMAGE_BYTES], undo: &mut [u8; UNDO_BYTES]) {
     say::heading(b"A session of two pages: block 1 holds names, block 2 the index");
     let p4 = to_p4(image, undo);
     let p6 = to_p6(p4, image, undo);
-    calls::slot_3(p6, Row::P(6));
+    calls::slot(p6, Row::P(6), 2);
     from_p7(p6, image, undo);
-    say::heading(b"A branch directly after P6: a hard creation turns the waiting soft patch hard");
+    say::heading(
+        b"A branch directly after P6: a hard creation turns the waiting soft patch hard, and joins it",
+    );
     let branch = calls::create(p6, image, undo, Row::Branch, 1, 0, &[67], &[]);
-    calls::slot_3(branch, Row::Branch);
+    calls::slot(branch, Row::Branch, 2);
     from_branch(branch, image, undo);
 }

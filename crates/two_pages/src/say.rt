@@ -4,8 +4,8 @@ ghost use lib.ListN.{length};
 use libc::STDOUT_FILENO;
 use rules::sizes::SLOTS;
 
-// The row of the paper's table that a line belongs to, or its opening, its branch, or which of the
-// edges.
+// The row of the paper's table that a line belongs to, or its opening, its branch, which of the edges,
+// or which of the joins.
 pub enum Row {
     Start,
     P(u32),
@@ -14,7 +14,10 @@ pub enum Row {
     Named,
     Last,
     Slots,
+    Full,
     Rooms,
+    Befores,
+    Overlap,
 }
 
 pub fn text(words: &[u8]) {
@@ -67,7 +70,10 @@ pub fn label(of: Row) {
         Row::Named => text(b"named"),
         Row::Last => text(b"last"),
         Row::Slots => text(b"slots"),
+        Row::Full => text(b"full"),
         Row::Rooms => text(b"rooms"),
+        Row::Befores => text(b"befores"),
+        Row::Overlap => text(b"overlap"),
     }
 }
 
@@ -111,7 +117,7 @@ fn run(n: usize, byte: u8, is_last: bool) {
     }
 }
 
-// The byte at i joins the n equal ones before it, and they are said where their run ends. What is
+// The byte at i is added to the n equal ones before it, and they are said where their run ends. What is
 // answered is how many are still to be said.
 fn pass(bytes: &[u8], i: usize, n: usize) -> usize
     requires { ⌜ i < length (now bytes) ⌝ }
