@@ -100,7 +100,7 @@ int main(void)
         {CREATE, 5, 8, 8, 0, 2}, /* 9, soft, follows 8 */
         {WRITE, 5, 0, 0, 0, 0x1},
         {COMPLETE, 5, 0, 0, 0, 0},
-        {CREATE, 5, 16, 0, 0, 1}, /* 10, hard: 9 turns hard */
+        {CREATE, 5, 16, 0, 0, 1}, /* hard: it joins 9, which turns hard */
         {WRITE, 5, 0, 0, 13, 0},  /* so nothing goes while 9 waits for 8; a soft 9 would stay behind */
         {CREATE, 64, 0, 0, 3, 0},
         {WRITE, 64, 0, 0, 3, 0},
