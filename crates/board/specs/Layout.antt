@@ -1,4 +1,5 @@
--- The table as 2,056 bytes that the caller keeps, and what they mean, always under the setting of the board. Every number is little-endian; board.h has the same places.
+-- The table as 2,056 bytes that the caller keeps, and what they mean, always under the setting of the board. Every number is little-endian; board.h
+-- has the same places.
 use Prim.Native.Nat.{ℕ, zero, suc, _+_, _*_, _/_, _%_, _^_, _≤_, _<_}
 use mathlib.Core.Path.{_≡_}
 use mathlib.Core.Bool.{cond}

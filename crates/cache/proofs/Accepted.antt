@@ -14,7 +14,8 @@ use Rattle.rules.specs.Settings.{undoBytes}
 use Rattle.rules.specs.Table.{Table, Sound}
 use Rattle.masks.specs.Lowest.{Lowest}
 use Rattle.rules.specs.Create.{Change, FreeSlot, HoldOf, Joins, LowestNumbered, accepted, place, changed, kept}
-use Rattle.rules.specs.Refusals.{Case, case, First, WrongSize, Unsound, NoBlock, WrongLength, PastEnd, NamesUnissued, TakesSlot, NoNumber, NoSlot, NoRoom, createCases}
+use Rattle.rules.specs.Refusals.{Case, case, First, WrongSize, Unsound, NoBlock, WrongLength, PastEnd, NamesUnissued, TakesSlot, NoNumber}
+use Rattle.rules.specs.Refusals.{NoSlot, NoRoom, createCases}
 use Rattle.rules.specs.Calls.{Creates, Accepts, createRefused, createGranted, createJoined}
 use Rattle.rules.specs.Passed.{CreateReady}
 use Rattle.rules.proofs.Granted.{issued-holds}

@@ -36,7 +36,8 @@ pub judged : {cases : List Case} {Ready : Type 0} (k : ℕ) → (k ≡ 0 → ⊥
 judged k d f = record { refused = λ e. f; ready = λ z. absurd (d z) }
 
 module _ (t : Table) (image undo block : List ℕ) (b : ℕ) where
-  pub write-wrong-size : (WrongSize imageBytes image ⊎ (WrongSize (undoBytes (t .setting)) undo ⊎ WrongSize blockBytes block)) → WriteJudged t image undo block b 1
+  pub write-wrong-size : (WrongSize imageBytes image ⊎ (WrongSize (undoBytes (t .setting)) undo ⊎ WrongSize blockBytes block))
+      → WriteJudged t image undo block b 1
   write-wrong-size w = judged 1 (λ e. omega arith) (holds w)
 
   -- the lent buffers are of their sizes

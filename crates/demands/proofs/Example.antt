@@ -1,6 +1,6 @@
--- Demand 3 is not empty: a history over three blocks, with a soft patch left behind, an overlap, a change that joins a patch, a completion, and a cut that lands
--- one of two blocks in flight. The theorem's conclusion is computed, and is neither the opening nor the working image. The change that joined named another, which
--- `closed` shows to be landed.
+-- Demand 3 is not empty: a history over three blocks, with a soft patch left behind, an overlap, a change that joins a patch, a completion, and a cut
+-- that lands one of two blocks in flight. The theorem's conclusion is computed, and is neither the opening nor the working image. The change that
+-- joined named another, which `closed` shows to be landed.
 use Prim.Native.Nat.{ℕ}
 use mathlib.Core.Path.{_≡_, refl, sym, _∙_, ap}
 use mathlib.Core.Bool.{Bool, true, false}

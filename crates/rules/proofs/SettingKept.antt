@@ -10,7 +10,8 @@ use Rattle.rules.specs.Table.{Table}
 use Rattle.rules.specs.Create.{Change, accepted, joined}
 use Rattle.rules.specs.Write.{sent}
 use Rattle.rules.specs.Complete.{completed}
-use Rattle.rules.specs.Calls.{Opening, Opens, plainNumber, Creation, Creates, Accepts, createNumber, Writing, Writes, writeNumber, sentSet, Completion, Completes}
+use Rattle.rules.specs.Calls.{Opening, Opens, plainNumber, Creation, Creates, Accepts, createNumber, Writing, Writes, writeNumber}
+use Rattle.rules.specs.Calls.{sentSet, Completion, Completes}
 
 accepted-setting : (t : Table) (c : Change) (j : ℕ) (h : Hold) → accepted t c j h .setting ≡ t .setting
 unfolding accepted

@@ -11,7 +11,8 @@ use Rattle.rules.specs.Table.{Table, Sound}
 use Rattle.rules.specs.Create.{Change}
 use Rattle.rules.specs.Refusals.{First, openCases}
 use Rattle.rules.specs.Passed.{CreatePassed}
-use Rattle.rules.specs.Calls.{Opening, Opens, Creation, Creates, Accepts, Writing, Writes, Completion, Completes, plainNumber, createNumber, writeNumber, sentSet}
+use Rattle.rules.specs.Calls.{Opening, Opens, Creation, Creates, Accepts, Writing, Writes, Completion, Completes, plainNumber}
+use Rattle.rules.specs.Calls.{createNumber, writeNumber, sentSet}
 use Rattle.rules.proofs.Cases.{passed}
 use Rattle.rules.proofs.Granted.{create-passed}
 use Rattle.rules.proofs.StaysSound.{opened-sound, accepted-sound, sent-sound, completed-sound}

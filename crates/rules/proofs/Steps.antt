@@ -24,7 +24,8 @@ use Rattle.rules.specs.Create.{Change, FreeSlot, HoldOf, Joins, LowestNu
 use Rattle.rules.specs.Write.{Largest}
 use Rattle.rules.specs.Rounds.{round, rounds}
 use Rattle.rules.specs.Refusals.{NoRoom, TakesSlot, First, Case, createCases, NoNumber, NoSlot, case}
-use Rattle.rules.specs.Calls.{Opens, openGranted, Creation, Creates, Accepts, createGranted, createJoined, Writing, Writes, writeGranted, writeRefused, Completion, Completes}
+use Rattle.rules.specs.Calls.{Opens, openGranted, Creation, Creates, Accepts, createGranted, createJoined, Writing, Writes}
+use Rattle.rules.specs.Calls.{writeGranted, writeRefused, Completion, Completes}
 use Rattle.rules.specs.Calls.{completeGranted}
 use Rattle.rules.specs.Rows.{Radio}
 use Rattle.rules.proofs.Cases.{holds, passes, none-holds}

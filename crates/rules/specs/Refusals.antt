@@ -1,4 +1,5 @@
--- Document 01, "Refusal numbers and their order", with document 02, request a, for 8 and 9: a call tests in rising number, among those listed for it, and answers the first that holds.
+-- Document 01, "Refusal numbers and their order", with document 02, request a, for 8 and 9: a call tests in rising number, among those listed for it,
+-- and answers the first that holds.
 use Prim.Native.Nat.{ℕ, _+_, _<_, _≤_}
 use mathlib.Core.Path.{_≡_}
 use mathlib.Core.Bool.{true}

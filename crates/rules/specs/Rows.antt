@@ -1,4 +1,5 @@
--- Document 01, "A session of two pages", with the answers of document 02, request a: rows P1 to P10 as one table, and what it is for the definitions to run a table of rows.
+-- Document 01, "A session of two pages", with the answers of document 02, request a: rows P1 to P10 as one table, and what it is for the definitions
+-- to run a table of rows.
 use Prim.Native.Nat.{ℕ}
 use mathlib.Core.List.{List, [], _∷_, _++_}
 use lib.ListN.{replicate}

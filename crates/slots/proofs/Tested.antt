@@ -95,11 +95,13 @@ module _ {g : Setting} {first next n : ℕ} {ss : List Slot} (has-rooms : n ≡ 
       befores-used = λ i j l k v h.
           sym (has-of (used ss) u j is-used k) ∙ within-at m u j inside k (gathered-all (follows ss) befores i j l k (true-and v h));
       befores-other = λ i l u. t i l .alone u .befores-other;
-      room-most = λ i r l e. rw (sym has-rooms) (subst (λ (q : ℕ). q < n) (room-is (slotAt ss i .state) r e) (t i l .alone (has-room-used ss i r e) .room-most));
+      room-most = λ i r l e. rw (sym has-rooms) (subst (λ (q : ℕ). q < n) (room-is (slotAt ss i .state) r e)
+          (t i l .alone (has-room-used ss i r e) .room-most));
       rooms-differ = λ i j r l k e f.
           below-same {P = λ i j. HasRoom ss i r × HasRoom ss j r} (λ i j l b h. t i l .room j r b (h .0) (h .1)) (λ i j h. (h .1, h .0)) i j l k (e, f);
     }
 
 -- the verdict on a table that is not sound
-pub not-sound : {g : Setting} {first next : ℕ} {ss : List Slot} {v : Verdict} → v ≡ unsound → (Sound (tableOf g first next ss) → ⊥) → IsVerdict g first next ss v
+pub not-sound : {g : Setting} {first next : ℕ} {ss : List Slot} {v : Verdict} → v ≡ unsound → (Sound (tableOf g first next ss) → ⊥)
+    → IsVerdict g first next ss v
 not-sound {g} {first} {next} {ss} e n = subst (IsVerdict g first next ss) (sym e) (record { decides = n; used-slots = refl; taken-rooms = refl })

@@ -121,7 +121,8 @@ module _ {h : History} {c : create.Change} {j : ℕ} {k : Hold} (d : Making h c 
   noted word e ws among f x (List·Memᴰ·tail m) = f x m ∙ sym (ap word (old-state d (x .number) (below d x m)))
 
   within′ : (x : Accepted) → List·Memᴰ x (new d ∷ h .accepted) → Within (plain x)
-  within′ x (List·Memᴰ·head e) = subst (λ (z : Accepted). Within (plain z)) (sym e) (record { block = d .passed .ready .is-block; ends = d .passed .ready .ends })
+  within′ x (List·Memᴰ·head e) =
+      subst (λ (z : Accepted). Within (plain z)) (sym e) (record { block = d .passed .ready .is-block; ends = d .passed .ready .ends })
   within′ x (List·Memᴰ·tail m) = d .good .within x m
 
   pub created-good : Good (made d)

@@ -93,7 +93,8 @@ module _ {h : History} {c : create.Change} {j : ℕ} {k : Hold} (d : Making h c 
     store = λ b i. refl;
     sent = λ b i. refl;
     log = refl;
-    working = λ b i. view-splice (plain (new d)) (h .image) (record { block = d .passed .ready .is-block; ends = d .passed .ready .ends }) (d .passed .ready .image-whole) b i;
+    working = λ b i. view-splice (plain (new d)) (h .image) (record { block = d .passed .ready .is-block; ends = d .passed .ready .ends })
+        (d .passed .ready .image-whole) b i;
     newState = new-state d;
     oldState = λ x m. old-state d (x .number) (below-log d x m);
     newUndo = new-undo d;

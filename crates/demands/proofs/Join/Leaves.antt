@@ -1,5 +1,5 @@
--- What a granted create that joins leaves is a good history: the log with the new change, the slots that describe it, and the notes. All that is said of a change
--- by its number holds of the new one, since it holds of the older change that has it.
+-- What a granted create that joins leaves is a good history: the log with the new change, the slots that describe it, and the notes. All that is said
+-- of a change by its number holds of the new one, since it holds of the older change that has it.
 use Prim.Native.Nat.{ℕ, _<_}
 use mathlib.Core.Path.{_≡_, refl, sym, _∙_, ap, subst}
 use mathlib.Core.Bool.{Bool, true}

@@ -28,7 +28,8 @@ use Rattle.demands.proofs.Lookup.{slotOf, carries-used, carries-number,
 use Rattle.demands.proofs.AtSlot.{stateAt, roomed, roomedAt, wordOf, roomedOf, hard-no-room, Tie, Tied, tie-stays}
 use Rattle.demands.proofs.Linked.{Has, room-stays}
 use Rattle.demands.proofs.Good.{roomByte, oldByte, newly-asked, world}
-use Rattle.demands.proofs.Join.Slots.{Joining, new, made, like, hard-now, keeps-before, adds-before, its-block, slot-here, state-here, slot-joined, its-state}
+use Rattle.demands.proofs.Join.Slots.{Joining, new, made, like, hard-now, keeps-before, adds-before, its-block, slot-here}
+use Rattle.demands.proofs.Join.Slots.{state-here, slot-joined, its-state}
 
 module _ {h : History} {c : create.Change} {j : ℕ} (d : Joining h c j) where
   abbrev ss : List Slot

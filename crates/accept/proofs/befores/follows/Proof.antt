@@ -60,7 +60,8 @@ returns-4 : tie.Need-returns-4
 returns-4 c =
     let same = c .before .before in
     let at = same .before .before in
-    rw (in-use (picked at), not-named at, eq-eqb _ _ (same .if3 .left), sym (c .before .is-hard-patch .ensures) ∙ c .if4 .taken) (sym (or-true (shared (start (picked at .before)))))
+    rw (in-use (picked at), not-named at, eq-eqb _ _ (same .if3 .left), sym (c .before .is-hard-patch .ensures) ∙ c .if4 .taken)
+    (sym (or-true (shared (start (picked at .before)))))
 
 shares-requires : tie.Need-shares-requires
 shares-requires c κs = search needs

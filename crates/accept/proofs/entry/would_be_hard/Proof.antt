@@ -68,7 +68,8 @@ returns-3 c =
     let rule = c .before .before in
     let s = start (c .before) in
     let a = s .args in
-    none-holds-hard (a .setting) (a .t2) (a .block) (s .pre) (sym (rule .before .all-soft .ensures) ∙ rule .if1 .left) (λ k l. c .before .loop .inv .1 k (omega arith))
+    none-holds-hard (a .setting) (a .t2) (a .block) (s .pre) (sym (rule .before .all-soft .ensures) ∙ rule .if1 .left)
+    (λ k l. c .before .loop .inv .1 k (omega arith))
 
 pub would-be-hard-spec : {M : Type 1} → statement M
 would-be-hard-spec =

@@ -236,7 +236,8 @@ loop-again-2 c =
         room = λ j r b e f.
             let most = subst (λ (q : ℕ). q < at .before .rooms .result) (room-is (slotAt ss (at .loop .i) .state) r e) (sound .room-most) in
             no-of (free .before .meets .result) (free .before .meets .ensures) (free .if6 .left)
-            (shares-meets ss (at .loop .i) (passed .rooms) (rooms .room-set .ensures) j r b (omega (arith, most, at .before .rooms .ensures, rooms-most (start at .args .setting))) e f);
+            (shares-meets ss (at .loop .i) (passed .rooms) (rooms .room-set .ensures) j r b
+            (omega (arith, most, at .before .rooms .ensures, rooms-most (start at .args .setting))) e f);
       });
     }
 
@@ -255,7 +256,8 @@ all-passed c =
     let at = c .before .before in
     let a = start at .args in
     let all : at .loop .i ≡ 64 = omega arith in
-    subst (Passed (a .first) (a .next) (at .before .rooms .result) (a .t4) (at .loop .marks) (at .loop .taken) (at .loop .used) (at .loop .befores)) all (at .loop .inv)
+    subst (Passed (a .first) (a .next) (at .before .rooms .result) (a .t4) (at .loop .marks) (at .loop .taken) (at .loop .used) (at .loop .befores)) all
+    (at .loop .inv)
 
 returns-5 : tie.Need-returns-5 Inv-loop μ-loop
 returns-5 c =
@@ -263,7 +265,8 @@ returns-5 c =
     let at = test .before in
     let passed = all-passed at in
     not-sound (c .unsound5 .ensures)
-    (λ s. clash (sound-within (at .before .before .before .rooms .ensures) (passed .befores-all) (passed .uses) s) (sym (at .within .ensures) ∙ not-true _ (test .if7 .taken)))
+    (λ s. clash (sound-within (at .before .before .before .rooms .ensures) (passed .befores-all) (passed .uses) s)
+    (sym (at .within .ensures) ∙ not-true _ (test .if7 .taken)))
 
 returns-6 : tie.Need-returns-6 Inv-loop μ-loop
 returns-6 c =
@@ -273,7 +276,8 @@ returns-6 c =
     let passed = all-passed at in
     let header = yes-not {P = HeaderInRange _ _} (begun .before .header-in-range .result) (begun .before .header-in-range .ensures) (begun .if1 .left) in
     record {
-      decides = tested-sound (walked .before .rooms .ensures) (passed .befores-all) (passed .uses) header (passed .tested) (sym (at .within .ensures) ∙ not-false _ (c .if7 .left));
+      decides = tested-sound (walked .before .rooms .ensures) (passed .befores-all) (passed .uses) header (passed .tested)
+          (sym (at .within .ensures) ∙ not-false _ (c .if7 .left));
       used-slots = passed .uses;
       taken-rooms = passed .rooms;
     }
