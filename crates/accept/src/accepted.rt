@@ -10,6 +10,7 @@ use rules::Hold;
 use rules::Slot;
 use rules::State;
 use rules::sizes::SLOTS;
+use slots::slot::with_befores;
 use slots::slot::with_state;
 
 // A waiting patch becomes hard, and has no room any more.
@@ -65,15 +66,7 @@ pub fn accepted(slots: [Slot; SLOTS], patch: Slot, j: usize, hold: Hold) -> [Slo
 fn with_more(s: Slot, more: u64) -> Slot
     ensures { λ r. ⌜ r ≡ withMore more s ⌝ }
 {
-    let state = s.state;
-    Slot {
-        state,
-        number: s.number,
-        block: s.block,
-        offset: s.offset,
-        len: s.len,
-        befores: masks::either(s.befores, more),
-    }
+    with_befores(s, masks::either(s.befores, more))
 }
 
 // The slots when a change of the block joins the patch of slot j and adds to its befores.

@@ -1,19 +1,11 @@
 // The slots with a set of patches committed: their slots free, and no patch after them.
 ghost use mathlib.Core.Path.{_≡_};
-ghost use Rattle.rules.specs.Slots.{withBefores};
 ghost use Rattle.rules.specs.Complete.{landedSlot, landedSlots};
 use rules::Slot;
 use rules::sizes::SLOTS;
 use slots::slot::free;
+use slots::slot::with_befores;
 use slots::words::is_used;
-
-fn with_befores(s: Slot, befores: u64) -> Slot
-    ensures { λ r. ⌜ r ≡ withBefores befores s ⌝ }
-{
-    let mut next = s;
-    next.befores = befores;
-    next
-}
 
 // A slot when the patches of `landed` commit: free where it is one of them. A patch that stays
 // loses them from its befores, and what is left in a free slot stays.

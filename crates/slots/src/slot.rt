@@ -1,6 +1,6 @@
-// One slot with another state, and a free one.
+// One slot with another state, one with other befores, and a free one.
 ghost use mathlib.Core.Path.{_≡_};
-ghost use Rattle.rules.specs.Slots.{withState, freeSlot};
+ghost use Rattle.rules.specs.Slots.{withState, withBefores, freeSlot};
 use rules::Slot;
 use rules::State;
 
@@ -15,6 +15,14 @@ pub fn with_state(s: Slot, state: State) -> Slot
         len: s.len,
         befores: s.befores,
     }
+}
+
+pub fn with_befores(s: Slot, befores: u64) -> Slot
+    ensures { λ r. ⌜ r ≡ withBefores befores s ⌝ }
+{
+    let mut next = s;
+    next.befores = befores;
+    next
 }
 
 pub fn free() -> Slot
