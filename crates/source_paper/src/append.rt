@@ -57,18 +57,18 @@ fn all(
     change(run, image, few, many, INODE, 0, &[5; 4], &[])
 }
 
-// On an image of zeros.
-pub fn run(setting: Setting, few: &mut [u8; FEW], many: &mut [u8; MANY]) {
+// On an image of zeros; `words` say which setting it is.
+pub fn run(setting: Setting, words: &[u8], few: &mut [u8; FEW], many: &mut [u8; MANY]) {
     let mut image = [0u8; IMAGE_BYTES];
     let end = all(setting, &mut image, few, many);
     let t = end.table;
     let left = counts::drain(t, &image, few, many);
     let rest = left.table;
-    say::setting(setting);
+    say::text(words);
     say::field(b": changes ", end.accepted);
     say::field(b", hard ", end.hard);
     say::field(b", entries ", counts::entries(t));
-    say::field(b", undo bytes ", counts::undo_bytes(t));
+    say::field(b", undo bytes ", counts::bytes_kept(t));
     say::field(b", writes that drain it ", left.writes);
     say::field(b", blocks that wait then ", counts::waiting(rest));
     say::text(b"\n");

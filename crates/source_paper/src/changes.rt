@@ -6,6 +6,7 @@ use rules::CreateAnswer;
 use rules::Hold;
 use rules::Setting;
 use rules::sizes::IMAGE_BYTES;
+use slots::setting::undo_bytes;
 
 // 16 rooms of 64 bytes, and 64.
 pub const FEW: usize = 1024;
@@ -100,9 +101,8 @@ pub fn change(
 ) -> Run {
     let t = before.table;
     let setting = t.setting;
-    match setting {
-        Setting::Board => counted(before, t.create(image, few, block, offset, bytes, named)),
-        Setting::AllSoft => counted(before, t.create(image, many, block, offset, bytes, named)),
-        Setting::HardRule => counted(before, t.create(image, many, block, offset, bytes, named)),
+    if undo_bytes(setting) == FEW {
+        return counted(before, t.create(image, few, block, offset, bytes, named));
     }
+    counted(before, t.create(image, many, block, offset, bytes, named))
 }

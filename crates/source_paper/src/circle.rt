@@ -71,12 +71,12 @@ fn step(
     table
 }
 
-// On an image of zeros.
-pub fn run(setting: Setting, few: &mut [u8; FEW], many: &mut [u8; MANY]) {
+// On an image of zeros; `words` say which setting it is.
+pub fn run(setting: Setting, words: &[u8], few: &mut [u8; FEW], many: &mut [u8; MANY]) {
     let mut image = [0u8; IMAGE_BYTES];
     let end = all(setting, &mut image, few, many);
     let mut t = end.table;
-    say::setting(setting);
+    say::text(words);
     say::text(b":\n");
     t = step(t, &image, few, many, b"  write inode block: ", INODE);
     t = step(t, &image, few, many, b"  write bitmap block: ", BITMAP);

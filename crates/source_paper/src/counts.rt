@@ -6,13 +6,13 @@ use cache::types::Table;
 use cache::types::Written;
 use rules::CountAnswer;
 use rules::Hold;
-use rules::Setting;
 use rules::Slot;
 use rules::State;
 use rules::WriteAnswer;
 use rules::sizes::BLOCK_BYTES;
 use rules::sizes::IMAGE_BYTES;
 use rules::sizes::SLOTS;
+use slots::setting::undo_bytes;
 
 // The length of a patch that has a room, and 0 for any other.
 fn kept(s: Slot) -> u32 {
@@ -37,7 +37,7 @@ fn plus(a: u32, b: u32) -> u32 {
     0
 }
 
-pub fn undo_bytes(t: Table) -> u32 {
+pub fn bytes_kept(t: Table) -> u32 {
     let mut sum = 0;
     for i in 0..SLOTS {
         let s = t.slots[i];
@@ -101,11 +101,10 @@ pub fn written(
     block: u32,
 ) -> Written {
     let setting = t.setting;
-    match setting {
-        Setting::Board => t.write(image, few, handed, block),
-        Setting::AllSoft => t.write(image, many, handed, block),
-        Setting::HardRule => t.write(image, many, handed, block),
+    if undo_bytes(setting) == FEW {
+        return t.write(image, few, handed, block);
     }
+    t.write(image, many, handed, block)
 }
 
 // Each of the eight blocks once, in rising order.

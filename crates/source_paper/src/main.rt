@@ -15,10 +15,25 @@ fn main() {
     let mut few = [7u8; FEW];
     let mut many = [7u8; MANY];
     say::text(b"Figure 3: a file grows by four blocks\n");
-    append::run(Setting::AllSoft, &mut few, &mut many);
-    append::run(Setting::HardRule, &mut few, &mut many);
-    append::run(Setting::Board, &mut few, &mut many);
+    append::run(
+        Setting::AllSoft,
+        b"every patch soft, no joining",
+        &mut few,
+        &mut many,
+    );
+    append::run(
+        Setting::HardRule,
+        b"the hard rule, no joining",
+        &mut few,
+        &mut many,
+    );
+    append::run(Setting::Board, b"the board's setting", &mut few, &mut many);
     say::text(b"\nFigure 2b: a file is removed before that has committed\n");
-    circle::run(Setting::HardRule, &mut few, &mut many);
-    circle::run(Setting::Board, &mut few, &mut many);
+    circle::run(
+        Setting::HardRule,
+        b"the hard rule, no joining",
+        &mut few,
+        &mut many,
+    );
+    circle::run(Setting::Board, b"the board's setting", &mut few, &mut many);
 }

@@ -1,6 +1,5 @@
 // Words and numbers on standard output.
 use libc::STDOUT_FILENO;
-use rules::Setting;
 
 pub fn text(words: &[u8]) {
     io::write_all(STDOUT_FILENO, words);
@@ -13,12 +12,4 @@ pub fn field(words: &[u8], n: u32) {
 
 pub fn byte(words: &[u8], b: u8) {
     field(words, b as u32);
-}
-
-pub fn setting(s: Setting) {
-    match s {
-        Setting::Board => text(b"the board's setting"),
-        Setting::AllSoft => text(b"every patch soft, no joining"),
-        Setting::HardRule => text(b"the hard rule, no joining"),
-    }
 }

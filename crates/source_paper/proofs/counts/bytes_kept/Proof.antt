@@ -1,8 +1,8 @@
--- `counts::undo_bytes` is safe and ends. Assumes nothing.
+-- `counts::bytes_kept` is safe and ends. Assumes nothing.
 use Prim.Native.Nat.{_≤_, _-_}
 use borrow.Author.Needs.{needs}
-use Rattle.source_paper.proofs.counts.undo_bytes.Statement.{statement}
-use Rattle.source_paper.proofs.counts.undo_bytes.Tie as tie
+use Rattle.source_paper.proofs.counts.bytes_kept.Statement.{statement}
+use Rattle.source_paper.proofs.counts.bytes_kept.Tie as tie
 
 abbrev Inv-loop : tie.InvT-loop
 Inv-loop t sum₀ i₀ sum i = i ≤ 64
@@ -37,8 +37,8 @@ loop-again c = search needs
 returns : tie.Need-returns Inv-loop μ-loop
 returns c = search needs
 
-pub undo-bytes-spec : {M : Type 1} → statement M
-undo-bytes-spec =
+pub bytes-kept-spec : {M : Type 1} → statement M
+bytes-kept-spec =
     tie.close
     (tie.spec
     Inv-loop
