@@ -12,7 +12,6 @@ use Rattle.rules.specs.declared.Kind.the-variants as kind
 use Rattle.rules.specs.declared.State.{State}
 use Rattle.rules.specs.declared.State.the-variants as state
 use Rattle.rules.specs.declared.Slot.{Slot}
-use Rattle.rules.specs.Sizes.{slots}
 use Rattle.rules.specs.Slots.{roomOf, freeSlot}
 use Rattle.rules.specs.Table.{Table, slotAt, tableOf}
 use Rattle.rules.proofs.SlotsBy.{slots-are}

@@ -72,7 +72,7 @@ pub record AcceptStep (c : Logged) (w w′ : World) : Type 1 where
   pub store : (b i : ℕ) → w′ .store b i ≡ w .store b i
   -- Nothing is passed to the store, and no block in flight is touched.
   pub sent : (b i : ℕ) → w′ .sent b i ≡ w .sent b i
-  -- The change joins the log as its newest, and no other change leaves or enters.
+  -- The change is the log's newest, and no other change leaves or enters.
   pub log : w′ .log ≡ c ∷ w .log
   -- The working image takes the change's bytes and keeps every other byte.
   pub working : (b i : ℕ) → w′ .working b i ≡ carryOut c (w .working) b i

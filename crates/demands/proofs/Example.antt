@@ -15,16 +15,15 @@ use Rattle.rules.specs.declared.Hold.the-variants as hold
 use Rattle.rules.specs.Sizes.{imageBytes, blockBytes}
 use Rattle.rules.specs.Settings.{undoBytes, rooms, joins, allSoft}
 use Rattle.rules.specs.Table.{slotsFrom}
-use Rattle.rules.specs.Open.{opened}
 use Rattle.rules.specs.Create.{Change, isIn, befores, patch, acceptedSlots, accepted, added, joinedSlots, joined, changed, kept, HoldOf}
 use Rattle.rules.specs.Write.{takenBack, backNumber, backDown, handedOut, sentSlots, sent}
 use Rattle.rules.specs.Rounds.{round, rounds}
 use Rattle.rules.specs.Complete.{landedSlots, completedSlots, completed}
 use Rattle.rules.specs.Calls.{openGranted, createGranted, createJoined, writeGranted, completeGranted}
 use Rattle.rules.specs.Rows.{Radio}
-use Rattle.rules.proofs.StaysSound.{opened-sound}
 use Rattle.rules.proofs.Computed.{allIssued, lowest-free, only-waiting, softTest, hard-tested, held-back, room-free}
-use Rattle.rules.proofs.Steps.{Good, Made, JoinedIn, Went, Done, afterCreate, afterWrite, afterComplete, inBounds, none-to-join, open-row, create-row, join-row}
+use Rattle.rules.proofs.Steps.{justOpened, just-opened-good, Made, JoinedIn, Went, Done, afterCreate, afterWrite, afterComplete, inBounds}
+use Rattle.rules.proofs.Steps.{none-to-join, open-row, create-row, join-row}
 use Rattle.rules.proofs.Steps.{write-row, complete-row}
 use Rattle.demands.specs.History as history
 use Rattle.demands.specs.History.{History, Accepted, Happened, Call, begun, numbersBelow, those}
@@ -35,14 +34,7 @@ abbrev zeros : List ℕ
 zeros = replicate imageBytes 0
 
 abbrev r0 : Radio
-r0 = record { table = opened Board 1; image = zeros; undo = replicate (undoBytes Board) 7 }
-
-g0 : Good r0
-g0 = record {
-  sound = opened-sound Board 1 (omega arith) (omega arith);
-  image-whole = length-replicate {A = ℕ} imageBytes 0;
-  undo-whole = length-replicate {A = ℕ} (undoBytes Board) 7;
-}
+r0 = justOpened
 
 -- a name on block 1, the index on block 2 after it, a longer name over the first after the index, a note on block 3, and another note there after the first
 -- name, which joins the note's patch
@@ -91,7 +83,8 @@ lent = replicate blockBytes 9
 E1 : Made r0 c1 0 hold.Hard
 unfolding slotsFrom inBounds allIssued someBelow softTest allSoft has bit
 E1 =
-    create-row r0 g0 c1 0 hold.Hard refl (omega arith) (none-to-join (r0 .table) c1 refl) (lowest-free (r0 .table .slots) 0 (omega arith) refl refl)
+    create-row r0 just-opened-good c1 0 hold.Hard refl (omega arith) (none-to-join (r0 .table) c1 refl)
+    (lowest-free (r0 .table .slots) 0 (omega arith) refl refl)
     (HoldOf.hard (hard-tested Board (r0 .table .slots) 1 refl refl))
 
 E2 : Made r1 c2 1 hold.Hard

@@ -13,6 +13,7 @@ use Rattle.rules.specs.declared.Slot.{Slot}
 use Rattle.rules.specs.Sizes.{imageBytes, roomStart, roomBytes}
 use Rattle.rules.specs.Table.{slotAt, Flies, Sound}
 use Rattle.rules.specs.Create.{isIn}
+use Rattle.rules.proofs.StaysSound.{Like}
 use Rattle.ground.proofs.Decided.{true-and}
 use Rattle.cut.specs.Changes.{Logged}
 use Rattle.cut.specs.World.{World, inFlight, committed}
@@ -24,7 +25,7 @@ use Rattle.demands.proofs.Views.{view, Within}
 use Rattle.demands.proofs.Notes.{AllWhole, mem-left}
 use Rattle.demands.proofs.Lookup.{slotOf, slot-carries}
 use Rattle.demands.proofs.AtSlot.{stateAt, wordOf, roomedOf, roomFor, Tied, isDone, isOut, word-flying}
-use Rattle.demands.proofs.Linked.{Linked}
+use Rattle.demands.proofs.Linked.{Linked, room-stays}
 
 -- y's caller named the number of x, which was accepted earlier: what AskedFor of specs/Demand3.antt says, of the log that `cut` sees
 pub record Names (l : List Accepted) (y x : Logged) : Type 0 where
@@ -65,6 +66,13 @@ rooms-alike u w r f n = go (ltb n roomBytes) refl
 -- the old bytes of a change, in the room of its slot
 abbrev pub oldByte : List Slot → List ℕ → Logged → ℕ → ℕ
 oldByte ss undo c i = roomByte undo (roomFor ss (c .number)) (i - c .offset)
+
+-- where the undo area is as it was, a number that keeps its slot has old bytes afterwards only if it had them, and the same
+pub undo-stays : (ss ss′ : List Slot) (undo : List ℕ) (x : Logged) → slotOf ss′ (x .number) ≡ slotOf ss (x .number)
+    → ((i : ℕ) → slotOf ss (x .number) ≡ some i → Like (slotAt ss′ i) (slotAt ss i)) → roomedOf ss′ (x .number) ≡ true
+    → (roomedOf ss (x .number) ≡ true) × ((i : ℕ) → oldByte ss′ undo x i ≡ oldByte ss undo x i)
+undo-stays ss ss′ undo x same like e =
+    let r = room-stays ss ss′ (x .number) same like e in (r .0, λ i. ap (λ (q : ℕ). roomByte undo q (i - x .offset)) (r .1))
 
 abbrev pub world : History → World
 world h = record {

@@ -7,7 +7,7 @@ use mathlib.Core.List.{List, List·Memᴰ}
 use mathlib.Core.Option.{Option, none, some}
 use mathlib.Core.Logic.{⊎-elim}
 use lib.Dec.{eqb}
-use Rattle.ground.proofs.Decided.{clash, and-true, true-and, or-true, true-or-l, true-or-r}
+use Rattle.ground.proofs.Decided.{clash, and-true, true-and, or-true, true-or-l, true-or-r, same-bool}
 use lib.ListN.{length}
 use Rattle.rules.specs.declared.Slot.{Slot}
 use Rattle.rules.specs.Sizes.{slots}
@@ -19,7 +19,7 @@ use Rattle.rules.proofs.StaysSound.{Like}
 use Rattle.cut.specs.Changes.{Logged, Share}
 use Rattle.demands.specs.History.{Accepted}
 use Rattle.demands.proofs.Log.{plain, Oldest, Once}
-use Rattle.demands.proofs.Lookup.{carries, slotOf, carries-used, carries-number, carries-of}
+use Rattle.demands.proofs.Lookup.{carries, slotOf, carries-used, carries-number, carries-of, slot-same}
 use Rattle.demands.proofs.AtSlot.{roomed, roomedAt, roomAt, roomedOf, roomFor}
 
 -- the slot has the change's range
@@ -93,6 +93,11 @@ linked-kept ss ss′ l like k = record {
 
     had : (a : Accepted) (i : ℕ) → Has ss′ a i → Has ss a i
     had a i h = (h .0, carries-was ss ss′ i (near a i h) (a .number) (h .1))
+
+-- where every slot is like it was, a number keeps its slot
+pub slot-kept : (ss ss′ : List Slot) → ((i : ℕ) → i < slots → Like (slotAt ss′ i) (slotAt ss i)) → (n : ℕ) → slotOf ss′ n ≡ slotOf ss n
+slot-kept ss ss′ like n =
+    slot-same ss′ ss n (λ i l. same-bool (carries ss′ n i) (carries ss n i) (carries-was ss ss′ i (like i l) n) (carries-still ss ss′ i (like i l) n))
 
 -- a number that keeps its slot has its room afterwards only if it had it
 pub room-stays : (ss ss′ : List Slot) (n : ℕ) → slotOf ss′ n ≡ slotOf ss n → ((i : ℕ) → slotOf ss n ≡ some i → Like (slotAt ss′ i) (slotAt ss i))

@@ -9,7 +9,6 @@ use lib.Dec.{eqb, leb, ltb}
 use Rattle.masks.specs.Sets.{someBelow}
 use Rattle.masks.proofs.Laws.{none-at}
 use Rattle.ground.proofs.Decided.{clash, and-true, or-true}
-use Rattle.rules.specs.declared.State.the-variants as state
 use Rattle.rules.specs.declared.Slot.{Slot}
 use Rattle.rules.specs.declared.Setting.{Setting}
 use Rattle.rules.specs.Sizes.{slots}

@@ -12,9 +12,9 @@ use Rattle.masks.specs.Sets.{has}
 use Rattle.masks.proofs.Laws.{has-none, no-member, a-member, set-none, set-some}
 use Rattle.ground.proofs.Decided.{clash, true-or-false}
 use Rattle.rules.specs.declared.Slot.{Slot}
-use Rattle.rules.specs.Sizes.{blocks, blockBytes, imageBytes, mostBytes, mostNamed, lastNumber}
-use Rattle.rules.specs.Table.{Table, used, waitsOn, Waits, Flies, Sound, Issued}
-use Rattle.rules.specs.Create.{Change, isIn}
+use Rattle.rules.specs.Sizes.{mostBytes, lastNumber}
+use Rattle.rules.specs.Table.{Table, used, waitsOn, Waits, Sound}
+use Rattle.rules.specs.Create.{Change}
 use Rattle.rules.specs.Write.{MayGo, Largest}
 use Rattle.rules.specs.Passed.{NamesIssued, CreatePassed, WritePassed}
 use Rattle.rules.specs.Refusals.{First, OnlyEmpty, NamesUnissued, createCases, writeCases}

@@ -4,7 +4,6 @@ use mathlib.Core.Path.{_≡_, refl, sym, ap, ap₂, subst, _∙_}
 use mathlib.Core.Bool.{true, cond}
 use mathlib.Core.List.{List}
 use native.Mathlib.Omega.{arith}
-use Rattle.rules.specs.declared.State.the-variants as state
 use lib.Dec.{eqb}
 use Rattle.rules.specs.declared.AskAnswer.{AskAnswer}
 use Rattle.rules.specs.declared.AskAnswer.the-variants as ask

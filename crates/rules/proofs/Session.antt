@@ -3,38 +3,30 @@ use Prim.Native.Nat.{ℕ}
 use mathlib.Core.Path.{refl}
 use mathlib.Core.List.{List, [], _∷_}
 use native.Mathlib.Omega.{arith}
-use lib.ListN.{replicate, length-replicate}
+use lib.ListN.{replicate}
 use Rattle.masks.specs.Sets.{bit, has, setBelow, someBelow}
 use Rattle.spans.specs.Spans.{splice}
 use Rattle.rules.specs.declared.Setting.the-variants.{Board}
 use Rattle.rules.specs.declared.Hold.the-variants as hold
-use Rattle.rules.specs.Sizes.{imageBytes, blockBytes, slots}
-use Rattle.rules.specs.Settings.{undoBytes, rooms, joins, allSoft}
+use Rattle.rules.specs.Sizes.{blockBytes}
+use Rattle.rules.specs.Settings.{rooms, joins, allSoft}
 use Rattle.rules.specs.Table.{slotsFrom}
-use Rattle.rules.specs.Open.{opened}
 use Rattle.rules.specs.Create.{Change, isIn, befores, patch, acceptedSlots, accepted, added, joinedSlots, joined, changed, kept, HoldOf}
 use Rattle.rules.specs.Write.{takenBack, backNumber, backDown, handedOut, sentSlots, sent}
 use Rattle.rules.specs.Rounds.{round, rounds}
 use Rattle.rules.specs.Complete.{landedSlots, completedSlots, completed}
 use Rattle.rules.specs.Calls.{createGranted, createJoined, writeGranted, completeGranted}
 use Rattle.rules.specs.Rows.{Radio, Runs, rowsP1toP10}
-use Rattle.rules.proofs.StaysSound.{opened-sound}
 use Rattle.rules.proofs.Computed.{allIssued, lowest-free, only-waiting, softTest, hard-tested, held-back, room-free}
-use Rattle.rules.proofs.Steps.{Good, Made, JoinedIn, Went, Done, Stayed, afterCreate, afterWrite, afterComplete, inBounds, none-to-join}
+use Rattle.rules.proofs.Steps.{justOpened, just-opened-good, Made, JoinedIn, Went, Done, Stayed, afterCreate, afterWrite}
+use Rattle.rules.proofs.Steps.{afterComplete, inBounds, none-to-join}
 use Rattle.rules.proofs.Steps.{create-row, join-row, write-flies, write-none, write-row, complete-row}
 
 abbrev lent : List ℕ
 lent = replicate blockBytes 9
 
 abbrev r0 : Radio
-r0 = record { table = opened Board 1; image = replicate imageBytes 0; undo = replicate (undoBytes Board) 7 }
-
-g0 : Good r0
-g0 = record {
-  sound = opened-sound Board 1 (omega arith) (omega arith);
-  image-whole = length-replicate {A = ℕ} imageBytes 0;
-  undo-whole = length-replicate {A = ℕ} (undoBytes Board) 7;
-}
+r0 = justOpened
 
 abbrev c1 : Change
 c1 = record { block = 1; offset = 0; bytes = replicate 8 65; named = [] }
@@ -54,7 +46,8 @@ r1 = afterCreate (createGranted (r0 .table) (r0 .image) (r0 .undo) c1 0 hold.Har
 P1 : Made r0 c1 0 hold.Hard
 unfolding slotsFrom inBounds allIssued someBelow softTest allSoft has bit
 P1 =
-    create-row r0 g0 c1 0 hold.Hard refl (omega arith) (none-to-join (r0 .table) c1 refl) (lowest-free (r0 .table .slots) 0 (omega arith) refl refl)
+    create-row r0 just-opened-good c1 0 hold.Hard refl (omega arith) (none-to-join (r0 .table) c1 refl)
+    (lowest-free (r0 .table .slots) 0 (omega arith) refl refl)
     (HoldOf.hard (hard-tested Board (r0 .table .slots) 1 refl refl))
 
 abbrev r2 : Radio

@@ -7,7 +7,7 @@ use mathlib.Core.Logic.{_⊎_, ⊎-elim}
 use native.Mathlib.Omega.{arith}
 use borrow.Author.Tests.{leb-true, ltb-true}
 use lib.Dec.{leb, ltb}
-use lib.ListN.{length}
+use lib.ListN.{length, replicate, length-replicate}
 use Rattle.masks.specs.Sets.{has, someBelow}
 use Rattle.masks.proofs.Laws.{has-none, has-slot, none-at}
 use Rattle.ground.proofs.Decided.{clash, and-true}
@@ -15,15 +15,16 @@ use Rattle.spans.proofs.Laws.{length-splice}
 use Rattle.rules.specs.declared.Hold.{Hold}
 use Rattle.rules.specs.declared.Hold.the-variants as hold
 use Rattle.rules.specs.declared.Setting.{Setting}
-use Rattle.rules.specs.declared.Slot.{Slot}
+use Rattle.rules.specs.declared.Setting.the-variants.{Board}
 use Rattle.rules.specs.Sizes.{blocks, blockBytes, imageBytes, slots, mostBytes, mostNamed, lastNumber}
 use Rattle.rules.specs.Settings.{undoBytes}
-use Rattle.rules.specs.Table.{Table, fliesOn, waitsOn, Waits, Flies, Sound}
+use Rattle.rules.specs.Table.{Table, fliesOn, waitsOn, Flies, Sound}
+use Rattle.rules.specs.Open.{opened}
 use Rattle.masks.specs.Lowest.{Lowest}
 use Rattle.rules.specs.Create.{Change, FreeSlot, HoldOf, Joins, LowestNumbered, changed, kept}
 use Rattle.rules.specs.Write.{Largest}
 use Rattle.rules.specs.Rounds.{round, rounds}
-use Rattle.rules.specs.Refusals.{NoRoom, TakesSlot, First, Case, createCases, NoNumber, NoSlot, case}
+use Rattle.rules.specs.Refusals.{NoRoom, TakesSlot, First, createCases, NoNumber, NoSlot, case}
 use Rattle.rules.specs.Calls.{Opens, openGranted, Creation, Creates, Accepts, createGranted, createJoined, Writing, Writes}
 use Rattle.rules.specs.Calls.{writeGranted, writeRefused, Completion, Completes}
 use Rattle.rules.specs.Calls.{completeGranted}
@@ -31,6 +32,7 @@ use Rattle.rules.specs.Rows.{Radio}
 use Rattle.rules.proofs.Cases.{holds, passes, none-holds}
 use Rattle.rules.proofs.Outcomes.{refuses, grants}
 use Rattle.rules.proofs.SettingKept.{create-setting, write-setting, complete-setting}
+use Rattle.rules.proofs.StaysSound.{opened-sound}
 use Rattle.rules.proofs.SoundCalls.{create-sound, write-sound, complete-sound}
 use Rattle.rules.proofs.Computed.{allIssued, names-issued}
 use Rattle.rules.proofs.Largest.{largest-empty}
@@ -41,6 +43,17 @@ pub record Good (r : Radio) : Type 0 where
   pub sound : Sound (r .table)
   pub image-whole : length (r .image) ≡ imageBytes
   pub undo-whole : length (r .undo) ≡ undoBytes (r .table .setting)
+
+-- opened at 1 on the board, the image all zero; the undo area holds 7s
+abbrev pub justOpened : Radio
+justOpened = record { table = opened Board 1; image = replicate imageBytes 0; undo = replicate (undoBytes Board) 7 }
+
+pub just-opened-good : Good justOpened
+just-opened-good = record {
+  sound = opened-sound Board 1 (omega arith) (omega arith);
+  image-whole = length-replicate {A = ℕ} imageBytes 0;
+  undo-whole = length-replicate {A = ℕ} (undoBytes Board) 7;
+}
 
 abbrev pub afterCreate : Creation → Radio
 afterCreate o = record { table = o .table; image = o .image; undo = o .undo }

@@ -9,7 +9,6 @@ use borrow.Author.Tests.{eq-eqb, eqb-true}
 use lib.Dec.{eqb}
 use Rattle.ground.proofs.Decided.{clash, and-true, true-and}
 use Rattle.rules.specs.declared.Hold.the-variants as hold
-use Rattle.rules.specs.declared.Kind.the-variants as kind
 use Rattle.rules.specs.declared.State.{State}
 use Rattle.rules.specs.declared.State.the-variants as state
 use Rattle.rules.specs.declared.Slot.{Slot}

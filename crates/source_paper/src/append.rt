@@ -2,7 +2,6 @@
 // allocated (b), written with zeros (d) and then with the data (d'), and attached to the inode (i),
 // whose size and time follow (i', at last i''); group and superblock account for them (g, s).
 use crate::changes::BITMAP;
-use crate::changes::FEW;
 use crate::changes::GROUP;
 use crate::changes::INODE;
 use crate::changes::MANY;
@@ -14,12 +13,13 @@ use crate::counts;
 use crate::say;
 use rules::Setting;
 use rules::sizes::IMAGE_BYTES;
+use rules::sizes::UNDO_BYTES;
 
 // One block: d follows b, i follows b and d, d' lies over d, i' follows d'.
 fn block(
     run: Run,
     image: &mut [u8; IMAGE_BYTES],
-    few: &mut [u8; FEW],
+    few: &mut [u8; UNDO_BYTES],
     many: &mut [u8; MANY],
     data: u32,
     at: u32,
@@ -44,7 +44,7 @@ fn block(
 fn all(
     setting: Setting,
     image: &mut [u8; IMAGE_BYTES],
-    few: &mut [u8; FEW],
+    few: &mut [u8; UNDO_BYTES],
     many: &mut [u8; MANY],
 ) -> Run {
     let mut run = opened(setting);
@@ -58,7 +58,7 @@ fn all(
 }
 
 // On an image of zeros; `words` say which setting it is.
-pub fn run(setting: Setting, words: &[u8], few: &mut [u8; FEW], many: &mut [u8; MANY]) {
+pub fn run(setting: Setting, words: &[u8], few: &mut [u8; UNDO_BYTES], many: &mut [u8; MANY]) {
     let mut image = [0u8; IMAGE_BYTES];
     let end = all(setting, &mut image, few, many);
     let t = end.table;

@@ -6,11 +6,10 @@ use rules::CreateAnswer;
 use rules::Hold;
 use rules::Setting;
 use rules::sizes::IMAGE_BYTES;
+use rules::sizes::UNDO_BYTES;
 use slots::setting::undo_bytes;
 
-// 16 rooms of 64 bytes, and 64.
-pub const FEW: usize = 1024;
-
+// 64 rooms of 64 bytes; on the board there are 16.
 pub const MANY: usize = 4096;
 
 pub const SUPER: u32 = 0;
@@ -92,7 +91,7 @@ fn counted(before: Run, o: Created) -> Run {
 pub fn change(
     before: Run,
     image: &mut [u8; IMAGE_BYTES],
-    few: &mut [u8; FEW],
+    few: &mut [u8; UNDO_BYTES],
     many: &mut [u8; MANY],
     block: u32,
     offset: u32,
@@ -101,7 +100,7 @@ pub fn change(
 ) -> Run {
     let t = before.table;
     let setting = t.setting;
-    if undo_bytes(setting) == FEW {
+    if undo_bytes(setting) == UNDO_BYTES {
         return counted(before, t.create(image, few, block, offset, bytes, named));
     }
     counted(before, t.create(image, many, block, offset, bytes, named))

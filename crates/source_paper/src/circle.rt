@@ -3,7 +3,6 @@
 // could be written first, if b2 could not be taken back.
 use crate::changes::BITMAP;
 use crate::changes::DATA;
-use crate::changes::FEW;
 use crate::changes::INODE;
 use crate::changes::MANY;
 use crate::changes::Run;
@@ -16,11 +15,12 @@ use rules::Setting;
 use rules::WriteAnswer;
 use rules::sizes::BLOCK_BYTES;
 use rules::sizes::IMAGE_BYTES;
+use rules::sizes::UNDO_BYTES;
 
 fn all(
     setting: Setting,
     image: &mut [u8; IMAGE_BYTES],
-    few: &mut [u8; FEW],
+    few: &mut [u8; UNDO_BYTES],
     many: &mut [u8; MANY],
 ) -> Run {
     let start = opened(setting);
@@ -52,7 +52,7 @@ fn said(a: WriteAnswer) {
 fn step(
     t: Table,
     image: &[u8; IMAGE_BYTES],
-    few: &[u8; FEW],
+    few: &[u8; UNDO_BYTES],
     many: &[u8; MANY],
     words: &[u8],
     block: u32,
@@ -72,7 +72,7 @@ fn step(
 }
 
 // On an image of zeros; `words` say which setting it is.
-pub fn run(setting: Setting, words: &[u8], few: &mut [u8; FEW], many: &mut [u8; MANY]) {
+pub fn run(setting: Setting, words: &[u8], few: &mut [u8; UNDO_BYTES], many: &mut [u8; MANY]) {
     let mut image = [0u8; IMAGE_BYTES];
     let end = all(setting, &mut image, few, many);
     let mut t = end.table;

@@ -1,5 +1,4 @@
 // What is read off a table: the undo bytes that its patches hold; and the writes that empty it.
-use crate::changes::FEW;
 use crate::changes::MANY;
 use crate::changes::more;
 use cache::types::Table;
@@ -12,6 +11,7 @@ use rules::WriteAnswer;
 use rules::sizes::BLOCK_BYTES;
 use rules::sizes::IMAGE_BYTES;
 use rules::sizes::SLOTS;
+use rules::sizes::UNDO_BYTES;
 use slots::setting::undo_bytes;
 
 // The length of a patch that has a room, and 0 for any other.
@@ -78,7 +78,7 @@ fn counted(before: Left, o: Written, block: u32) -> Left {
 fn drained(
     before: Left,
     image: &[u8; IMAGE_BYTES],
-    few: &[u8; FEW],
+    few: &[u8; UNDO_BYTES],
     many: &[u8; MANY],
     block: u32,
 ) -> Left {
@@ -95,20 +95,25 @@ fn drained(
 pub fn written(
     t: Table,
     image: &[u8; IMAGE_BYTES],
-    few: &[u8; FEW],
+    few: &[u8; UNDO_BYTES],
     many: &[u8; MANY],
     handed: &mut [u8; BLOCK_BYTES],
     block: u32,
 ) -> Written {
     let setting = t.setting;
-    if undo_bytes(setting) == FEW {
+    if undo_bytes(setting) == UNDO_BYTES {
         return t.write(image, few, handed, block);
     }
     t.write(image, many, handed, block)
 }
 
 // Each of the eight blocks once, in rising order.
-pub fn drain(t: Table, image: &[u8; IMAGE_BYTES], few: &[u8; FEW], many: &[u8; MANY]) -> Left {
+pub fn drain(
+    t: Table,
+    image: &[u8; IMAGE_BYTES],
+    few: &[u8; UNDO_BYTES],
+    many: &[u8; MANY],
+) -> Left {
     let mut left = Left {
         table: t,
         writes: 0,

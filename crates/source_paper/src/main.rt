@@ -7,12 +7,12 @@ mod circle;
 mod counts;
 mod say;
 
-use changes::FEW;
 use changes::MANY;
 use rules::Setting;
+use rules::sizes::UNDO_BYTES;
 
 fn main() {
-    let mut few = [7u8; FEW];
+    let mut few = [7u8; UNDO_BYTES];
     let mut many = [7u8; MANY];
     say::text(b"Figure 3: a file grows by four blocks\n");
     append::run(

@@ -1,5 +1,5 @@
 -- A granted complete as a landing of `cut`: the store with the block's write there, and what it leaves of undo data and ties.
-use Prim.Native.Nat.{ℕ, _-_}
+use Prim.Native.Nat.{ℕ}
 use mathlib.Core.Path.{_≡_, refl, sym, _∙_, ap}
 use mathlib.Core.Bool.{Bool, true, false, cond, not}
 use mathlib.Core.List.{List, _++_, List·Memᴰ, map}
@@ -21,8 +21,7 @@ use Rattle.demands.proofs.Views.{view}
 use Rattle.demands.proofs.Notes.{AllWhole, some-written, written-alike, mem-left}
 use Rattle.demands.proofs.Lookup.{slotOf, slot-carries}
 use Rattle.demands.proofs.AtSlot.{stateAt, roomedAt, wordOf, roomedOf, Tied, tie-stays}
-use Rattle.demands.proofs.Linked.{room-stays}
-use Rattle.demands.proofs.Good.{roomByte, oldByte, world, Good}
+use Rattle.demands.proofs.Good.{oldByte, undo-stays, world, Good}
 use Rattle.demands.proofs.Complete.Slots.{settledIf, to-it, elsewhere, landed, Fate, fate, stays-at, like-at, state-after}
 
 module _ {h : History} (g : Good h) (b : ℕ) where
@@ -42,9 +41,7 @@ module _ {h : History} (g : Good h) (b : ℕ) where
       pick (Fate.gone e f) = absurd (clash s (ap (roomedAt ss′) f))
       pick (Fate.lost j e l f) = absurd (clash s (ap (roomedAt ss′) f))
       pick (Fate.kept j e f) =
-          let same = f ∙ sym e in
-          let r = room-stays ss ss′ (x .number) same (λ i q. like-at g b (x .number) i (same ∙ q)) s in
-          (r .0, λ i. ap (λ (q : ℕ). roomByte (h .undo) q (i - x .offset)) (r .1))
+          let same = f ∙ sym e in undo-stays ss ss′ (h .undo) x same (λ i q. like-at g b (x .number) i (same ∙ q)) s
 
   old-ties : (m n : ℕ) → wordOf ss′ m ≢ committed → Tied ss m n → (wordOf ss′ n ≡ committed) ⊎ Tied ss′ m n
   old-ties m n w t = pick (fate g b m) (fate g b n)

@@ -1,7 +1,7 @@
 -- What a granted create that joins leaves is a good history: the log with the new change, the slots that describe it, and the notes. All that is said
 -- of a change by its number holds of the new one, since it holds of the older change that has it.
 use Prim.Native.Nat.{ℕ, _<_}
-use mathlib.Core.Path.{_≡_, refl, sym, _∙_, ap, subst}
+use mathlib.Core.Path.{_≡_, sym, _∙_, ap, subst}
 use mathlib.Core.Bool.{Bool, true}
 use mathlib.Core.List.{List, _∷_, List·Memᴰ, List·Memᴰ·head, List·Memᴰ·tail}
 use borrow.Author.Tests.{eq-eqb}
@@ -10,19 +10,18 @@ use Rattle.spans.proofs.Laws.{length-splice}
 use Rattle.rules.specs.declared.Slot.{Slot}
 use Rattle.rules.specs.Sizes.{slots}
 use Rattle.rules.specs.Slots.{roomOf}
-use Rattle.rules.specs.Table.{slotAt, used}
+use Rattle.rules.specs.Table.{slotAt}
 use Rattle.rules.specs.Create as create
 use Rattle.rules.specs.Create.{overlaps, changed}
-use Rattle.rules.proofs.StaysSound.{Like}
 use Rattle.rules.proofs.Words.{hard-is-patch, roomed-used}
 use Rattle.cut.specs.Changes.{Share}
 use Rattle.cut.specs.World.{Stage, Step}
 use Rattle.cut.proofs.Core.{step-keeps}
 use Rattle.demands.specs.History.{History, Accepted, Sent}
 use Rattle.demands.specs.Demand3.{Earlier, sentIn}
-use Rattle.demands.proofs.Log.{plain, Numbered, number-taken, Oldest, Once, oldest-in}
+use Rattle.demands.proofs.Log.{plain, Numbered, number-taken, Oldest, Once}
 use Rattle.demands.proofs.Views.{Within, inside-of}
-use Rattle.demands.proofs.Lookup.{carries, carries-used, carries-number, carries-of}
+use Rattle.demands.proofs.Lookup.{carries-used, carries-number, carries-of}
 use Rattle.demands.proofs.AtSlot.{roomed, hard-no-room, wordOf, isDone, isOut}
 use Rattle.demands.proofs.Linked.{Range, Has, toldOf, like-room, carries-was, range-still, told-still}
 use Rattle.demands.proofs.Good.{Good}

@@ -1,6 +1,5 @@
 -- A granted create that joins a patch: the history that it leaves, each slot afterwards, and where each number is.
 use Prim.Native.Nat.{ℕ, _<_}
-use native.Mathlib.Omega.{arith}
 use mathlib.Core.Path.{_≡_, refl, sym, _∙_, ap, subst}
 use mathlib.Core.Bool.{Bool, true}
 use mathlib.Core.List.{List, _∷_, List·Memᴰ}
@@ -8,7 +7,7 @@ use mathlib.Core.Option.{Option, none, some}
 use borrow.Author.Tests.{eq-eqb, eqb-true}
 use lib.Dec.{eqb}
 use Rattle.masks.specs.Sets.{has}
-use Rattle.ground.proofs.Decided.{and-true, same-bool}
+use Rattle.ground.proofs.Decided.{and-true}
 use Rattle.rules.specs.declared.Hold.the-variants as hold
 use Rattle.rules.specs.declared.Slot.{Slot}
 use Rattle.rules.specs.Sizes.{slots}
@@ -24,9 +23,9 @@ use Rattle.rules.proofs.Joined.{is-added, joined-like, joined-keeps, joined-add
 use Rattle.cut.specs.World.{waiting}
 use Rattle.demands.specs.History.{History, Accepted}
 use Rattle.demands.proofs.Log.{number-taken}
-use Rattle.demands.proofs.Lookup.{carries, slotOf, carries-of, at-slot, slot-carries, slot-same}
+use Rattle.demands.proofs.Lookup.{slotOf, carries-of, at-slot, slot-carries}
 use Rattle.demands.proofs.AtSlot.{stateWord, stateAt, wordOf, waiting-word}
-use Rattle.demands.proofs.Linked.{carries-was, carries-still}
+use Rattle.demands.proofs.Linked.{slot-kept}
 use Rattle.demands.proofs.Good.{Good}
 use Rattle.demands.proofs.Create.Slots.{turned-stays}
 
@@ -104,8 +103,7 @@ module _ {h : History} {c : create.Change} {j : ℕ} (d : Joining h c j) where
 
   -- a number keeps its slot, and where it is
   pub slot-here : (n : ℕ) → slotOf ss′ n ≡ slotOf ss n
-  slot-here n =
-      slot-same ss′ ss n (λ i l. same-bool (carries ss′ n i) (carries ss n i) (carries-was ss ss′ i (like i l) n) (carries-still ss ss′ i (like i l) n))
+  slot-here = slot-kept ss ss′ like
 
   pub state-here : (n : ℕ) → wordOf ss′ n ≡ wordOf ss n
   state-here n = ap (stateAt ss′) (slot-here n) ∙ go (slotOf ss n) refl

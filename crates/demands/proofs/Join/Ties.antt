@@ -1,33 +1,29 @@
 -- A create that joins and the ties: the patch that it joins is tied to all that the change must follow, and the others stay tied as they were. Of its own block
 -- it needs no befores: what waits there is hard now and goes with it, and what is in flight lands before the block goes again. So it is an acceptance of `cut`.
-use Prim.Native.Nat.{ℕ, _-_, _<_}
+use Prim.Native.Nat.{ℕ, _<_}
 use mathlib.Core.Path.{_≡_, refl, sym, _∙_, ap, subst}
 use mathlib.Core.Bool.{true, not}
 use mathlib.Core.List.{List, _∷_, map, List·Memᴰ}
 use mathlib.Core.Option.{Option, none, some}
 use mathlib.Core.Logic.{_≢_, _⊎_, inl, inr, ⊎-elim}
 use borrow.Author.Tests.{eq-eqb, ne-eqb}
-use lib.Dec.{eqb}
-use Rattle.masks.specs.Sets.{has}
 use Rattle.ground.proofs.Decided.{clash, same-or-other, true-and}
 use Rattle.rules.specs.declared.Slot.{Slot}
 use Rattle.rules.specs.Sizes.{slots}
-use Rattle.rules.specs.Slots.{isHard}
 use Rattle.rules.specs.Table.{slotAt, used}
 use Rattle.rules.specs.Create as create
-use Rattle.rules.specs.Create.{isIn, isNamed, namedElsewhere, changed}
+use Rattle.rules.specs.Create.{isIn, changed}
 use Rattle.rules.proofs.Words.{hard-is-patch, used-waits-or-flies}
 use Rattle.cut.specs.Changes.{Logged}
-use Rattle.cut.specs.World.{committed, waiting, Must, AcceptStep}
+use Rattle.cut.specs.World.{committed, Must, AcceptStep}
 use Rattle.cut.proofs.Invariant.{Held, waits-not-off}
 use Rattle.demands.specs.History.{History, Accepted}
 use Rattle.demands.specs.Demand3.{Earlier}
 use Rattle.demands.proofs.Log.{plain, of-log, earlier-log}
 use Rattle.demands.proofs.Views.{inside-of, view-splice}
 use Rattle.demands.proofs.Lookup.{slotOf, carries-used, carries-number, slot-carries}
-use Rattle.demands.proofs.AtSlot.{stateAt, roomed, roomedAt, wordOf, roomedOf, hard-no-room, Tie, Tied, tie-stays}
-use Rattle.demands.proofs.Linked.{Has, room-stays}
-use Rattle.demands.proofs.Good.{roomByte, oldByte, newly-asked, world}
+use Rattle.demands.proofs.AtSlot.{stateAt, roomedAt, wordOf, roomedOf, hard-no-room, Tie, Tied, tie-stays}
+use Rattle.demands.proofs.Good.{oldByte, undo-stays, newly-asked, world}
 use Rattle.demands.proofs.Join.Slots.{Joining, new, made, like, hard-now, keeps-before, adds-before, its-block, slot-here}
 use Rattle.demands.proofs.Join.Slots.{state-here, slot-joined, its-state}
 
@@ -129,10 +125,7 @@ module _ {h : History} {c : create.Change} {j : ℕ} (d : Joining h c j) where
 
   old-undo : (x : Logged) → roomedOf ss′ (x .number) ≡ true
       → (roomedOf ss (x .number) ≡ true) × ((i : ℕ) → oldByte ss′ (h .undo) x i ≡ oldByte ss (h .undo) x i)
-  old-undo x e =
-      let n = x .number in
-      let r = room-stays ss ss′ n (slot-here d n) (λ i q. like d i (slot-carries ss n i q .0)) e in
-      (r .0, λ i. ap (λ (q : ℕ). roomByte (h .undo) q (i - x .offset)) (r .1))
+  old-undo x = let n = x .number in undo-stays ss ss′ (h .undo) x (slot-here d n) (λ i q. like d i (slot-carries ss n i q .0))
 
   pub joins : AcceptStep (plain (new d)) (world h) (world (made d))
   unfolding changed

@@ -1,5 +1,5 @@
 -- A granted write as a sending of `cut`: what goes, what it leaves of undo data and ties, and the blocks that it does not touch.
-use Prim.Native.Nat.{ℕ, _-_, _<_}
+use Prim.Native.Nat.{ℕ, _<_}
 use mathlib.Core.Path.{_≡_, refl, sym, _∙_, ap}
 use mathlib.Core.Bool.{true}
 use mathlib.Core.List.{List, _∷_, _++_}
@@ -22,8 +22,7 @@ use Rattle.demands.proofs.Views.{view, inside-of}
 use Rattle.demands.proofs.Notes.{whole, view-written}
 use Rattle.demands.proofs.Lookup.{slotOf, slot-carries}
 use Rattle.demands.proofs.AtSlot.{wordOf, roomedOf, Tie, Tied, tie-stays}
-use Rattle.demands.proofs.Linked.{room-stays}
-use Rattle.demands.proofs.Good.{roomByte, oldByte, world, none-out}
+use Rattle.demands.proofs.Good.{oldByte, undo-stays, world, none-out}
 use Rattle.demands.proofs.Write.Slots.{Sending, writ, gone, may, waits, goAt, goes, like, befores-stay, slot-here, go-state, stay-state, members}
 use Rattle.demands.proofs.Write.Left.{left-roomed}
 use Rattle.demands.proofs.Write.Back.{whole-writ, bytes}
@@ -57,10 +56,7 @@ module _ {h : History} {b s : ℕ} (d : Sending h b s) where
 
   old-undo : (x : Logged) → roomedOf ss′ (x .number) ≡ true
       → (roomedOf ss (x .number) ≡ true) × ((i : ℕ) → oldByte ss′ (h .undo) x i ≡ oldByte ss (h .undo) x i)
-  old-undo x e =
-      let n = x .number in
-      let r = room-stays ss ss′ n (slot-here d n) (λ j q. like d j (slot-carries ss n j q .0)) e in
-      (r .0, λ i. ap (λ (q : ℕ). roomByte (h .undo) q (i - x .offset)) (r .1))
+  old-undo x = let n = x .number in undo-stays ss ss′ (h .undo) x (slot-here d n) (λ i q. like d i (slot-carries ss n i q .0))
 
   old-ties : (m n : ℕ) → Tied ss m n → Tied ss′ m n
   old-ties m n =

@@ -6,7 +6,7 @@ use mathlib.Core.List.{List, _∷_, List·Memᴰ}
 use mathlib.Core.Option.{Option, none, some}
 use borrow.Author.Tests.{eqb-true}
 use Rattle.masks.specs.Sets.{has}
-use Rattle.ground.proofs.Decided.{clash, and-true, same-bool}
+use Rattle.ground.proofs.Decided.{clash, and-true}
 use Rattle.rules.specs.declared.State as rules
 use Rattle.rules.specs.declared.State.the-variants as state
 use Rattle.rules.specs.declared.Slot.{Slot}
@@ -21,9 +21,9 @@ use Rattle.cut.specs.Changes.{Logged}
 use Rattle.cut.specs.World.{waiting, inFlight}
 use Rattle.demands.specs.History.{History, Accepted, Sent, numbersBelow}
 use Rattle.demands.proofs.Log.{plain}
-use Rattle.demands.proofs.Lookup.{carries, slotOf, slot-carries, slot-same}
+use Rattle.demands.proofs.Lookup.{slotOf, slot-carries}
 use Rattle.demands.proofs.AtSlot.{stateWord, stateAt, wordOf, waiting-word}
-use Rattle.demands.proofs.Linked.{carries-was, carries-still}
+use Rattle.demands.proofs.Linked.{slot-kept}
 use Rattle.demands.proofs.Good.{Good}
 
 sent-word : (u : rules.State) → isWaiting u ≡ true → stateWord (sentState u) ≡ inFlight
@@ -102,8 +102,7 @@ module _ {h : History} {b s : ℕ} (d : Sending h b s) where
 
   -- a number keeps its slot
   pub slot-here : (n : ℕ) → slotOf ss′ n ≡ slotOf ss n
-  slot-here n =
-      slot-same ss′ ss n (λ i l. same-bool (carries ss′ n i) (carries ss n i) (carries-was ss ss′ i (like i l) n) (carries-still ss ss′ i (like i l) n))
+  slot-here = slot-kept ss ss′ like
 
   -- does the change go?
   abbrev pub goes : Logged → Bool

@@ -1,16 +1,15 @@
 -- `accept::entry::entry_for` meets its contract: each answer is a case of Enters. Assumes nothing.
-use Prim.Native.Nat.{ℕ, _<_}
-use mathlib.Core.Path.{_≡_, sym, subst, _∙_}
-use mathlib.Core.Bool.{true}
+use Prim.Native.Nat.{ℕ}
+use mathlib.Core.Path.{sym, subst, _∙_}
 use native.Mathlib.Omega.{arith}
 use borrow.Author.Needs.{needs}
 use borrow.Author.Tests.{not-true, not-false}
 use Rattle.ground.proofs.Decided.{clash, yes-of, no-of}
 use Rattle.masks.specs.Lowest.{LowestOr, Outside}
-use Rattle.rules.specs.Settings.{rooms, joins}
+use Rattle.rules.specs.Settings.{rooms}
 use Rattle.rules.specs.Create.{WouldBeHard}
 use Rattle.rules.proofs.Rooms.{rooms-most}
-use Rattle.accept.specs.Asked.{FirstNumbered, Enters}
+use Rattle.accept.specs.Asked.{Enters}
 use Rattle.accept.proofs.Numbered.{first-numbered, none-wait}
 use Rattle.accept.proofs.entry.entry_for.Statement.{statement}
 use Rattle.accept.proofs.entry.entry_for.Tie as tie
