@@ -34,7 +34,7 @@ abbrev zeros : List ℕ
 zeros = replicate imageBytes 0
 
 abbrev r0 : Radio
-r0 = justOpened
+r0 = justOpened 1
 
 -- a name on block 1, the index on block 2 after it, a longer name over the first after the index, a note on block 3, and another note there after the first
 -- name, which joins the note's patch
@@ -83,7 +83,7 @@ lent = replicate blockBytes 9
 E1 : Made r0 c1 0 hold.Hard
 unfolding slotsFrom inBounds allIssued someBelow softTest allSoft has bit
 E1 =
-    create-row r0 just-opened-good c1 0 hold.Hard refl (omega arith) (none-to-join (r0 .table) c1 refl)
+    create-row r0 (just-opened-good 1 (omega arith) (omega arith)) c1 0 hold.Hard refl (omega arith) (none-to-join (r0 .table) c1 refl)
     (lowest-free (r0 .table .slots) 0 (omega arith) refl refl)
     (HoldOf.hard (hard-tested Board (r0 .table .slots) 1 refl refl))
 

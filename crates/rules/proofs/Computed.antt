@@ -25,16 +25,16 @@ use Rattle.rules.specs.Refusals.{NamesUnissued}
 -- every number of the list was issued
 unfoldable pub allIssued : Table → List ℕ → Bool
 allIssued t [] = true
-allIssued t (n ∷ l) = (leb (t .first) n && ltb n (t .next)) && allIssued t l
+allIssued t (n ∷ l) = (leb 1 n && ltb n (t .next)) && allIssued t l
 
-pub issued : (t : Table) (l : List ℕ) (n : ℕ) → allIssued t l ≡ true → isIn n l ≡ true → Issued t n
+pub issued : (t : Table) (l : List ℕ) (n : ℕ) → allIssued t l ≡ true → isIn n l ≡ true → Issued (t .next) n
 unfolding allIssued isIn
 issued t [] n a e = absurd (clash e refl)
 issued t (m ∷ l) n a e =
-    let w = and-true (leb (t .first) m && ltb m (t .next)) (allIssued t l) a in
-    let v = and-true (leb (t .first) m) (ltb m (t .next)) (w .0) in
+    let w = and-true (leb 1 m && ltb m (t .next)) (allIssued t l) a in
+    let v = and-true (leb 1 m) (ltb m (t .next)) (w .0) in
     ⊎-elim
-    (λ q. subst (Issued t) (sym (eqb-true n m q)) (leb-true (t .first) m (v .0), ltb-true m (t .next) (v .1)))
+    (λ q. subst (Issued (t .next)) (sym (eqb-true n m q)) (leb-true 1 m (v .0), ltb-true m (t .next) (v .1)))
     (λ q. issued t l n (w .1) q)
     (or-true (eqb n m) (isIn n l) e)
 

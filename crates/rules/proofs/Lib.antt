@@ -20,5 +20,6 @@ pub mod OneAnswer
 pub mod SoundCalls
 pub mod Computed
 pub mod Steps
+pub mod OldNumbers
 pub mod Session
 pub mod Rows

@@ -26,7 +26,7 @@ abbrev lent : List ℕ
 lent = replicate blockBytes 9
 
 abbrev r0 : Radio
-r0 = justOpened
+r0 = justOpened 1
 
 abbrev c1 : Change
 c1 = record { block = 1; offset = 0; bytes = replicate 8 65; named = [] }
@@ -46,7 +46,7 @@ r1 = afterCreate (createGranted (r0 .table) (r0 .image) (r0 .undo) c1 0 hold.Har
 P1 : Made r0 c1 0 hold.Hard
 unfolding slotsFrom inBounds allIssued someBelow softTest allSoft has bit
 P1 =
-    create-row r0 just-opened-good c1 0 hold.Hard refl (omega arith) (none-to-join (r0 .table) c1 refl)
+    create-row r0 (just-opened-good 1 (omega arith) (omega arith)) c1 0 hold.Hard refl (omega arith) (none-to-join (r0 .table) c1 refl)
     (lowest-free (r0 .table .slots) 0 (omega arith) refl refl)
     (HoldOf.hard (hard-tested Board (r0 .table .slots) 1 refl refl))
 

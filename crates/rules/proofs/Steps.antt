@@ -44,13 +44,13 @@ pub record Good (r : Radio) : Type 0 where
   pub image-whole : length (r .image) ≡ imageBytes
   pub undo-whole : length (r .undo) ≡ undoBytes (r .table .setting)
 
--- opened at 1 on the board, the image all zero; the undo area holds 7s
-abbrev pub justOpened : Radio
-justOpened = record { table = opened Board 1; image = replicate imageBytes 0; undo = replicate (undoBytes Board) 7 }
+-- opened at n on the board, the image all zero; the undo area holds 7s
+abbrev pub justOpened : ℕ → Radio
+justOpened n = record { table = opened Board n; image = replicate imageBytes 0; undo = replicate (undoBytes Board) 7 }
 
-pub just-opened-good : Good justOpened
-just-opened-good = record {
-  sound = opened-sound Board 1 (omega arith) (omega arith);
+pub just-opened-good : (n : ℕ) → 1 ≤ n → n ≤ lastNumber → Good (justOpened n)
+just-opened-good n least most = record {
+  sound = opened-sound Board n least most;
   image-whole = length-replicate {A = ℕ} imageBytes 0;
   undo-whole = length-replicate {A = ℕ} (undoBytes Board) 7;
 }

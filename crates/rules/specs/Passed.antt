@@ -14,7 +14,7 @@ use Rattle.rules.specs.Refusals.{TakesSlot}
 
 -- every named number was issued
 abbrev pub NamesIssued : Table → Change → Type 0
-NamesIssued t c = (n : ℕ) → isIn n (c .named) ≡ true → Issued t n
+NamesIssued t c = (n : ℕ) → isIn n (c .named) ≡ true → Issued (t .next) n
 
 -- none of the refusals 1 to 7 holds of a create
 pub record CreateReady (t : Table) (image undo : List ℕ) (c : Change) : Type 0 where

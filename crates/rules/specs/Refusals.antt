@@ -1,5 +1,5 @@
--- Document 01, "Refusal numbers and their order", with document 02, request a, for 8 and 9: a call tests in rising number, among those listed for it,
--- and answers the first that holds.
+-- Document 01, "Refusal numbers and their order", with document 02, request a for 8 and 9 and request b for 7: a call tests in rising number, among
+-- those listed for it, and answers the first that holds.
 use Prim.Native.Nat.{ℕ, _+_, _<_, _≤_}
 use mathlib.Core.Path.{_≡_}
 use mathlib.Core.Bool.{true}
@@ -53,9 +53,9 @@ PastEnd c = blockBytes < c .offset + length (c .bytes)
 abbrev pub ManyNamed : Change → Type 0
 ManyNamed c = mostNamed < length (c .named)
 
--- 7: a named or asked number was never issued
+-- 7: a named or asked number was never issued: it is 0, or not below next
 abbrev pub NeverIssued : Table → ℕ → Type 0
-NeverIssued t n = Issued t n → ⊥
+NeverIssued t n = Issued (t .next) n → ⊥
 
 abbrev pub NamesUnissued : Table → Change → Type 0
 NamesUnissued t c = (n : ℕ) × (isIn n (c .named) ≡ true) × NeverIssued t n

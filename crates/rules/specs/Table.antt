@@ -1,4 +1,4 @@
--- Document 01, "The table": what a table holds, when it is sound, which numbers have committed.
+-- Document 01, "The table", with document 02, request b: what a table holds, when it is sound, which numbers have committed.
 use Prim.Native.Nat.{ℕ, zero, suc, _+_, _≤_, _<_}
 use mathlib.Core.Path.{_≡_}
 use mathlib.Core.Bool.{Bool, true, _&&_}
@@ -96,14 +96,18 @@ pub record Sound (t : Table) : Type 0 where
   pub room-most : (i r : ℕ) → i < slots → HasRoom (t .slots) i r → r < rooms (t .setting)
   pub rooms-differ : (i j r : ℕ) → i < slots → j < slots → HasRoom (t .slots) i r → HasRoom (t .slots) j r → i ≡ j
 
--- the numbers from first up to next - 1 have been issued, and no other
-abbrev pub Issued : Table → ℕ → Type 0
-Issued t n = (t .first ≤ n) × (n < t .next)
+-- the numbers from 1 up to next - 1 have been issued, and no other
+abbrev pub Issued : (next : ℕ) → ℕ → Type 0
+Issued next n = (1 ≤ n) × (n < next)
+
+-- those below first before this opening: the old numbers (document 02, request b)
+abbrev pub Old : Table → ℕ → Type 0
+Old t n = (1 ≤ n) × (n < t .first)
 
 -- the patch with number n is in slot i
 abbrev pub InSlot : Table → ℕ → ℕ → Type 0
 InSlot t n i = (i < slots) × (used (t .slots) i ≡ true) × (slotAt (t .slots) i .number ≡ n)
 
--- an issued number that is in no slot has committed
+-- an issued number that is in no slot has committed; an old one is in none, as numbers in use are at least first
 abbrev pub Committed : Table → ℕ → Type 0
-Committed t n = Issued t n × ((i : ℕ) → InSlot t n i → ⊥)
+Committed t n = Issued (t .next) n × ((i : ℕ) → InSlot t n i → ⊥)
