@@ -22,10 +22,10 @@ module _ (t : Table) (n : ℕ) where
   pub ask-unsound : (Sound t → ⊥) → Asks t n (ask.Refused 2)
   ask-unsound u = refuses 2 (holds u) refl (λ e. omega arith)
 
-  pub ask-unissued : Sound t → (Issued t n → ⊥) → Asks t n (ask.Refused 7)
+  pub ask-unissued : Sound t → (Issued (t .next) n → ⊥) → Asks t n (ask.Refused 7)
   ask-unissued s d = refuses 7 (passes (λ u. u s) (holds d)) refl (λ e. omega arith)
 
-  pub ask-granted : (a : AskAnswer) → askNumber a ≡ 0 → Sound t → Issued t n → Asked t n (askWord a) → Asks t n a
+  pub ask-granted : (a : AskAnswer) → askNumber a ≡ 0 → Sound t → Issued (t .next) n → Asked t n (askWord a) → Asks t n a
   ask-granted a z s d g = grants a (passes (λ u. u s) (passes (λ u. u d) none-holds)) z g
 
 module _ (t : Table) (b : ℕ) where

@@ -10,12 +10,13 @@ use rules::refusals::NO_BLOCK;
 use rules::refusals::NOT_SOUND;
 use rules::sizes::LAST_BLOCK;
 use rules::sizes::LAST_SLOT;
+use slots::number::is_issued;
 use slots::patches::patches_on;
 use slots::sound::is_sound;
 use slots::walks::find;
 
 impl Table {
-    // Where the patch with the number is. A number in no slot has committed, maybe long ago.
+    // Where the patch with the number is. A number in no slot has committed, maybe before this opening.
     pub fn ask(self, number: u32) -> AskAnswer
         ensures { λ r. ⌜ Asks (seen self) number r ⌝ }
     {
@@ -24,10 +25,7 @@ impl Table {
         if !is_sound(setting, self.first, self.next, slots) {
             return AskAnswer::Refused(NOT_SOUND);
         }
-        if number < self.first {
-            return AskAnswer::Refused(NEVER_ISSUED);
-        }
-        if self.next <= number {
+        if !is_issued(self.next, number) {
             return AskAnswer::Refused(NEVER_ISSUED);
         }
         let i = find(slots, number);

@@ -112,7 +112,7 @@ impl Table {
         if MOST_NAMED < named.len() {
             return MANY_NAMES;
         }
-        if unissued(self.first, self.next, named) {
+        if unissued(self.next, named) {
             return NEVER_ISSUED;
         }
         0
