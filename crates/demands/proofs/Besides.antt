@@ -1,23 +1,25 @@
 -- The notes of a good history are true.
-use Prim.Native.Nat.{ℕ}
+use Prim.Native.Nat.{ℕ, _≤_, _<_}
 use native.Mathlib.Omega.{arith}
+use native.Mathlib.Decide.{decLe}
 use mathlib.Core.Path.{_≡_, refl, sym, _∙_, ap, ap₂, subst}
 use mathlib.Core.Bool.{Bool, true, false, _||_}
 use mathlib.Core.List.{List, _∷_, _++_, List·Memᴰ, List·Memᴰ·head, List·Memᴰ·tail}
+use mathlib.Core.Logic.{_⊎_, inl, inr}
 use mathlib.Core.Option.{Option, some}
 use Rattle.ground.proofs.Decided.{true-or-l, true-or-r}
 use Rattle.rules.specs.declared.AskAnswer.{AskAnswer}
 use Rattle.rules.specs.declared.AskAnswer.the-variants as ask
 use Rattle.rules.specs.declared.Slot.{Slot}
 use Rattle.rules.specs.Slots.{isWaiting, isInFlight}
-use Rattle.rules.specs.Table.{Table, slotAt, Issued, InSlot, Committed}
+use Rattle.rules.specs.Table.{Table, slotAt, Old, InSlot, Committed}
 use Rattle.rules.specs.Create.{isIn}
 use Rattle.rules.specs.Ask.{askWord, Asked}
 use Rattle.rules.specs.Calls.{Writing, Writes, writeNumber, Asks}
 use Rattle.rules.proofs.Granted.{write-passed}
 use Rattle.demands.specs.History.{History, Accepted, Sent, those}
 use Rattle.demands.specs.Demand3.{onStore, sentIn, hasLanded, NotesTrue}
-use Rattle.demands.proofs.Log.{number-taken, named-earlier, block-one}
+use Rattle.demands.proofs.Log.{number-least, number-taken, named-earlier, block-one}
 use Rattle.demands.proofs.Notes.{sent-in-both, mem-left}
 use Rattle.demands.proofs.Lookup.{slotOf, carries-used, carries-number, carries-of, at-slot, no-slot}
 use Rattle.demands.proofs.AtSlot.{stateAt, wordOf, isDone, isOut, waiting-word, flying-word, out-flies}
@@ -63,22 +65,32 @@ module _ (h : History) (g : Good h) where
 
   -- ---- what ask says, and the notes
 
-  issued : (n : ℕ) → Issued (h .table) n → (a : Accepted) × List·Memᴰ a (h .accepted) × (a .number ≡ n)
-  issued n i = number-taken n (g .numbers) (i .0) (i .1)
+  -- the number is that of a change of this history
+  Own : ℕ → Type 0
+  Own n = (h .table .first ≤ n) × (n < h .table .next)
 
-  in-slot : (n i : ℕ) → InSlot (h .table) n i → Issued (h .table) n × (slotOf ss n ≡ some i)
+  issued : (n : ℕ) → h .table .first ≤ n → n < h .table .next → (a : Accepted) × List·Memᴰ a (h .accepted) × (a .number ≡ n)
+  issued n low high = number-taken n (g .numbers) low high
+
+  none-old : (a : Accepted) → List·Memᴰ a (h .accepted) → h .table .first ≤ a .number
+  none-old a m = number-least a (g .numbers) m
+
+  in-slot : (n i : ℕ) → InSlot (h .table) n i → Own n × (slotOf ss n ≡ some i)
+  unfolding Own
   in-slot n i s =
       let num = s .2 in
       let low = g .sound .number-least i (s .0) (s .1) in
       let high = g .sound .number-most i (s .0) (s .1) in
       ((omega arith, omega arith), at-slot ss n i (g .sound .numbers-differ) (s .0) (carries-of ss n i (s .1) num))
 
-  -- the notes on an issued number are those on where its patch is
-  landed-is : (n : ℕ) → Issued (h .table) n → sentIn n (h .landed) ≡ isDone (wordOf ss n)
-  landed-is n i = let a = issued n i in subst (λ (m : ℕ). sentIn m (h .landed) ≡ isDone (wordOf ss m)) (a .2) (g .done (a .0) (a .1))
+  -- the notes on a number of this history are those on where its patch is
+  landed-is : (n : ℕ) → Own n → sentIn n (h .landed) ≡ isDone (wordOf ss n)
+  unfolding Own
+  landed-is n i = let a = issued n (i .0) (i .1) in subst (λ (m : ℕ). sentIn m (h .landed) ≡ isDone (wordOf ss m)) (a .2) (g .done (a .0) (a .1))
 
-  out-is : (n : ℕ) → Issued (h .table) n → sentIn n (h .inFlight) ≡ isOut (wordOf ss n)
-  out-is n i = let a = issued n i in subst (λ (m : ℕ). sentIn m (h .inFlight) ≡ isOut (wordOf ss m)) (a .2) (g .out (a .0) (a .1))
+  out-is : (n : ℕ) → Own n → sentIn n (h .inFlight) ≡ isOut (wordOf ss n)
+  unfolding Own
+  out-is n i = let a = issued n (i .0) (i .1) in subst (λ (m : ℕ). sentIn m (h .inFlight) ≡ isOut (wordOf ss m)) (a .2) (g .out (a .0) (a .1))
 
   waiting-unsent : (n : ℕ) → Asks (h .table) n ask.Waiting → sentIn n (h .inFlight ++ h .landed) ≡ false
   unfolding Says
@@ -95,12 +107,24 @@ module _ (h : History) (g : Good h) where
       let q = in-slot n (s .0) (s .1) in
       out-is n (q .0) ∙ ap isOut (ap (stateAt ss) (q .1) ∙ flying-word (slotAt ss (s .0) .state) (s .2))
 
-  pub committed-landed : (n : ℕ) → Asks (h .table) n ask.Committed → sentIn n (h .landed) ≡ true
-  unfolding Says
-  committed-landed n p =
+  committed-landed : (n : ℕ) → h .table .first ≤ n → Asks (h .table) n ask.Committed → sentIn n (h .landed) ≡ true
+  unfolding Says Own
+  committed-landed n low p =
       let c = says ask.Committed (p .grant refl) in
       let gone = no-slot ss n (λ i l f. c .1 i (l, carries-used ss n i f, carries-number ss n i f)) in
-      landed-is n (c .0) ∙ ap (λ (x : Option ℕ). isDone (stateAt ss x)) gone
+      landed-is n (low, c .0 .1) ∙ ap (λ (x : Option ℕ). isDone (stateAt ss x)) gone
+
+  committed : (n : ℕ) → Asks (h .table) n ask.Committed → Old (h .table .first) n ⊎ (sentIn n (h .landed) ≡ true)
+  unfolding Says
+  committed n p = go (decLe (h .table .first) n)
+    where
+      go : Dec (h .table .first ≤ n) → Old (h .table .first) n ⊎ (sentIn n (h .landed) ≡ true)
+      go (yes low) = inr (committed-landed n low p)
+      go (no d) = inl (says ask.Committed (p .grant refl) .0 .0, omega arith)
+
+  -- a change of this history whose number is called committed has landed
+  pub change-landed : (a : Accepted) → List·Memᴰ a (h .accepted) → Asks (h .table) (a .number) ask.Committed → sentIn (a .number) (h .landed) ≡ true
+  change-landed a m p = committed-landed (a .number) (none-old a m) p
 
   -- all changes of a number are of the block that it was sent to
   of-block : (w : Sent) → List·Memᴰ w (h .inFlight ++ h .landed) → (n : ℕ) → isIn n (w .numbers) ≡ true
@@ -113,11 +137,13 @@ module _ (h : History) (g : Good h) where
   unfolding hasLanded onStore
   with-all n p a m e new =
       sent-in-both (a .number) (those (λ w. new (w .block)) (h .inFlight)) (h .landed)
-      ∙ true-or-r (sentIn (a .number) (those (λ w. new (w .block)) (h .inFlight))) (ap (λ (x : ℕ). sentIn x (h .landed)) e ∙ committed-landed n p)
+      ∙ true-or-r (sentIn (a .number) (those (λ w. new (w .block)) (h .inFlight)))
+      (change-landed a m (subst (λ (x : ℕ). Asks (h .table) x ask.Committed) (sym e) p))
 
   pub good-notes : NotesTrue h
   good-notes = record {
     issued = issued;
+    none-old = none-old;
     named = λ y m n e. named-earlier (h .accepted) y (g .older) m n e;
     known = λ w m n f. let a = g .sent w m n f in (a .0, a .1, a .2);
     of-block = of-block;
@@ -125,6 +151,6 @@ module _ (h : History) (g : Good h) where
     alone = alone;
     waiting = waiting-unsent;
     flying = flying-out;
-    committed = committed-landed;
+    committed = committed;
     with-all = with-all;
   }

@@ -8,7 +8,7 @@ use Rattle.demands.specs.History.{History, Accepted, Happened}
 use Rattle.demands.specs.Demand3.{CutSafe, NotesTrue, ForGood}
 use Rattle.demands.proofs.Histories.{happened-good}
 use Rattle.demands.proofs.Safe.{good-safe}
-use Rattle.demands.proofs.Besides.{good-notes}
+use Rattle.demands.proofs.Besides.{change-landed, good-notes}
 use Rattle.demands.proofs.Later.{landed-for-good}
 
 -- From one opening with the image equal to the store, after any calls in any order and a cut at any point, the store holds the opening with the changes of the
@@ -16,7 +16,7 @@ use Rattle.demands.proofs.Later.{landed-for-good}
 pub demand-3 : {h : History} → Happened h → (new : ℕ → Bool) → CutSafe h new
 demand-3 {h} w new = good-safe h (happened-good w) new
 
--- Beside it: every issued number is an accepted change's, and every named one an earlier change's; every number sent is that of an accepted change,
+-- Beside it: every number issued since the opening is an accepted change's, and every named one an old one or an earlier change's; every number sent is that of an accepted change,
 -- with all its changes of its block, and is sent once; a granted write finds nothing in flight to its block; and what ask calls waiting, in flight or
 -- committed is unsent, out or landed by the notes, with all its changes. So demand 3 is not met by forgetting.
 pub notes-true : {h : History} → Happened h → NotesTrue h
@@ -24,4 +24,4 @@ notes-true {h} w = good-notes h (happened-good w)
 
 -- And what ask has called committed is on the store for good: after any further calls and any cut.
 pub committed-stays : {h : History} → Happened h → (a : Accepted) → List·Memᴰ a (h .accepted) → Asks (h .table) (a .number) ask.Committed → ForGood h a
-committed-stays {h} w a m p = landed-for-good h a m (notes-true w .committed (a .number) p)
+committed-stays {h} w a m p = landed-for-good h a m (change-landed h (happened-good w) a m p)

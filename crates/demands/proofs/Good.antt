@@ -91,9 +91,9 @@ world h = record {
 pub record Good (h : History) : Type 0 where
   -- the table is sound: any granted call
   pub sound : Sound (h .table)
-  -- the log is numbered from first to next, and what a change names stands earlier in it: create
+  -- the log is numbered from first to next, and what a change names is old or stands earlier in it: create
   pub numbers : Numbered (h .table .first) (h .accepted) (h .table .next)
-  pub older : NamesOlder (h .accepted)
+  pub older : NamesOlder (h .table .first) (h .accepted)
   -- the slots describe the changes whose numbers they have: create, and complete where it frees a slot
   pub linked : Linked (h .table .slots) (h .accepted)
   -- a change lies in its block: create

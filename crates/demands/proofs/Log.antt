@@ -2,10 +2,12 @@
 -- the number of an older change of its block.
 use Prim.Native.Nat.{ℕ, _+_, _≤_, _<_}
 use native.Mathlib.Omega.{arith}
+use native.Mathlib.Decide.{decLe}
 use mathlib.Core.Path.{_≡_, refl, sym, _∙_, ap, subst}
 use mathlib.Core.Bool.{true}
 use mathlib.Core.List.{List, [], _∷_, map, List·Memᴰ, List·Memᴰ·head, List·Memᴰ·tail, List·Memᴰ·not-nil}
-use mathlib.Core.Logic.{_≢_, _⊎_, inl, inr}
+use mathlib.Core.Logic.{_≢_, _⊎_, inl, inr, ⊎-elim}
+use Rattle.rules.specs.Table.{Issued, Old}
 use Rattle.rules.specs.Create.{isIn}
 use Rattle.cut.specs.Changes as cut
 use Rattle.cut.specs.Changes.{Logged}
@@ -47,6 +49,14 @@ module _ {first : ℕ} where
   number-below x (Numbered.fresh a e n) (List·Memᴰ·tail m) = let z = number-below x n m in omega arith
   number-below x (Numbered.joins a y k e b n) (List·Memᴰ·head q) = let z = number-of q in let w = number-below y n k in omega arith
   number-below x (Numbered.joins a y k e b n) (List·Memᴰ·tail m) = number-below x n m
+
+  -- and not below first
+  pub number-least : {l : List Accepted} {next : ℕ} (x : Accepted) → Numbered first l next → List·Memᴰ x l → first ≤ x .number
+  number-least x Numbered.begins m = absurd (List·Memᴰ·not-nil m)
+  number-least x (Numbered.fresh a e n) (List·Memᴰ·head q) = let z = number-of q in let w = first-least n in omega arith
+  number-least x (Numbered.fresh a e n) (List·Memᴰ·tail m) = number-least x n m
+  number-least x (Numbered.joins a y k e b n) (List·Memᴰ·head q) = let z = number-of q in let w = number-least y n k in omega arith
+  number-least x (Numbered.joins a y k e b n) (List·Memᴰ·tail m) = number-least x n m
 
   -- each number from first to next - 1 is a change's
   pub number-taken : {l : List Accepted} {next : ℕ} (n : ℕ) → Numbered first l next → first ≤ n → n < next → (a : Accepted) × List·Memᴰ a l × (a .number ≡ n)
@@ -103,18 +113,28 @@ pub older-in : {l : List Accepted} {y x : Accepted} → Earlier l y x → List·
 older-in (Earlier.here m) = List·Memᴰ·tail m
 older-in (Earlier.there e) = List·Memᴰ·tail (older-in e)
 
--- what each change named are numbers of changes earlier in the log
-abbrev pub NamesOlder : List Accepted → Type 0
-NamesOlder [] = Unit {0}
-NamesOlder (a ∷ older) = ((n : ℕ) → isIn n (a .change .named) ≡ true → (x : Accepted) × List·Memᴰ x older × (x .number ≡ n)) × NamesOlder older
+-- what each change named are old numbers, or numbers of changes earlier in the log
+abbrev pub NamesOlder : (first : ℕ) → List Accepted → Type 0
+NamesOlder first [] = Unit {0}
+NamesOlder first (a ∷ older) =
+    ((n : ℕ) → isIn n (a .change .named) ≡ true → Old first n ⊎ ((x : Accepted) × List·Memᴰ x older × (x .number ≡ n))) × NamesOlder first older
 
-pub named-earlier : (l : List Accepted) (y : Accepted) → NamesOlder l → List·Memᴰ y l → (n : ℕ) → isIn n (y .change .named) ≡ true
-    → (x : Accepted) × Earlier l y x × (x .number ≡ n)
+-- so it is with a new change, as it names issued numbers
+pub names-older : {first next : ℕ} {l : List Accepted} (n : ℕ) → Numbered first l next → Issued next n
+    → Old first n ⊎ ((x : Accepted) × List·Memᴰ x l × (x .number ≡ n))
+names-older {first} {next} {l} n q i = go (decLe first n)
+  where
+    go : Dec (first ≤ n) → Old first n ⊎ ((x : Accepted) × List·Memᴰ x l × (x .number ≡ n))
+    go (yes low) = inr (number-taken n q low (i .1))
+    go (no d) = inl (i .0, omega arith)
+
+pub named-earlier : {first : ℕ} (l : List Accepted) (y : Accepted) → NamesOlder first l → List·Memᴰ y l → (n : ℕ) → isIn n (y .change .named) ≡ true
+    → Old first n ⊎ ((x : Accepted) × Earlier l y x × (x .number ≡ n))
 named-earlier [] y f m n e = absurd (List·Memᴰ·not-nil m)
 named-earlier (a ∷ l) y f (List·Memᴰ·head q) n e =
-    let r = f .0 n (subst (λ (z : Accepted). isIn n (z .change .named) ≡ true) q e) in
-    (r .0, subst (λ (z : Accepted). Earlier (z ∷ l) y (r .0)) q (Earlier.here (r .1)), r .2)
-named-earlier (a ∷ l) y f (List·Memᴰ·tail m) n e = let r = named-earlier l y (f .1) m n e in (r .0, Earlier.there (r .1), r .2)
+    ⊎-elim inl (λ r. inr (r .0, subst (λ (z : Accepted). Earlier (z ∷ l) y (r .0)) q (Earlier.here (r .1)), r .2))
+    (f .0 n (subst (λ (z : Accepted). isIn n (z .change .named) ≡ true) q e))
+named-earlier (a ∷ l) y f (List·Memᴰ·tail m) n e = ⊎-elim inl (λ r. inr (r .0, Earlier.there (r .1), r .2)) (named-earlier l y (f .1) m n e)
 
 -- ---- the log of `cut`
 

@@ -1,13 +1,14 @@
 -- Demand 3: what the store holds if the supply is cut at an arbitrary moment.
-use Prim.Native.Nat.{ℕ, _+_, _≤_}
+use Prim.Native.Nat.{ℕ, _+_, _≤_, _<_}
 use mathlib.Core.Path.{_≡_}
 use mathlib.Core.Bool.{Bool, true, false, cond, _||_}
 use mathlib.Core.List.{List, [], _∷_, _++_, List·Memᴰ}
+use mathlib.Core.Logic.{_⊎_}
 use lib.Dec.{eqb}
 use Rattle.spans.specs.Spans.{splice}
 use Rattle.rules.specs.declared.AskAnswer.the-variants as ask
 use Rattle.rules.specs.Sizes.{blockStart}
-use Rattle.rules.specs.Table.{Issued}
+use Rattle.rules.specs.Table.{Old}
 use Rattle.rules.specs.Create.{isIn, changed}
 use Rattle.rules.specs.Calls.{Writing, Writes, writeNumber, Asks}
 use Rattle.demands.specs.History.{History, Accepted, Sent, those, Call}
@@ -77,10 +78,12 @@ timesSent n (w ∷ ws) = timesIn n (w .numbers) + timesSent n ws
 -- beside it, so that nothing is won by forgetting: the notes are true
 pub record NotesTrue (h : History) : Type 0 where
   -- every number from first to next - 1 is that of an accepted change
-  pub issued : (n : ℕ) → Issued (h .table) n → (a : Accepted) × List·Memᴰ a (h .accepted) × (a .number ≡ n)
-  -- and every number that a change named is that of one accepted earlier
+  pub issued : (n : ℕ) → h .table .first ≤ n → n < h .table .next → (a : Accepted) × List·Memᴰ a (h .accepted) × (a .number ≡ n)
+  -- and no accepted change has an old number: a name below first asks for no change of this history
+  pub none-old : (a : Accepted) → List·Memᴰ a (h .accepted) → h .table .first ≤ a .number
+  -- every number that a change named is an old one, or that of one accepted earlier
   pub named : (y : Accepted) → List·Memᴰ y (h .accepted) → (n : ℕ) → isIn n (y .change .named) ≡ true
-      → (x : Accepted) × Earlier (h .accepted) y x × (x .number ≡ n)
+      → Old (h .table .first) n ⊎ ((x : Accepted) × Earlier (h .accepted) y x × (x .number ≡ n))
   -- every number sent is that of at least one accepted change, and every change that was answered it is of the write's block
   pub known : (w : Sent) → List·Memᴰ w (h .inFlight ++ h .landed) → (n : ℕ) → isIn n (w .numbers) ≡ true
       → (a : Accepted) × List·Memᴰ a (h .accepted) × (a .number ≡ n)
@@ -95,8 +98,8 @@ pub record NotesTrue (h : History) : Type 0 where
   pub waiting : (n : ℕ) → Asks (h .table) n ask.Waiting → sentIn n (h .inFlight ++ h .landed) ≡ false
   -- one that it calls in flight is in a write that is out
   pub flying : (n : ℕ) → Asks (h .table) n ask.InFlight → sentIn n (h .inFlight) ≡ true
-  -- and one that it calls committed is a landed one: whatever a cut lets be, it is on the store with all its changes
-  pub committed : (n : ℕ) → Asks (h .table) n ask.Committed → sentIn n (h .landed) ≡ true
+  -- and one that it calls committed is an old one or a landed one: whatever a cut lets be, this is on the store with all its changes
+  pub committed : (n : ℕ) → Asks (h .table) n ask.Committed → Old (h .table .first) n ⊎ (sentIn n (h .landed) ≡ true)
   pub with-all : (n : ℕ) → Asks (h .table) n ask.Committed → (a : Accepted) → List·Memᴰ a (h .accepted) → a .number ≡ n
       → (new : ℕ → Bool) → hasLanded new h a ≡ true
 

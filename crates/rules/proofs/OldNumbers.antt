@@ -48,7 +48,7 @@ refused-seven t n s w a p = ask-one t n a (ask.Refused 7) p (refuses 7 (passes (
 
 -- ---- an old number has committed
 
-module _ (t : Table) (s : Sound t) (n : ℕ) (old : Old t n) where
+module _ (t : Table) (s : Sound t) (n : ℕ) (old : Old (t .first) n) where
   pub old-committed : Committed t n
   old-committed =
       let l = old .1 in
@@ -82,7 +82,7 @@ module _ (g : Setting) (n : ℕ) (least : 1 ≤ n) (most : n ≤ lastNumber) whe
   first-refused = refused-seven (opened g n) n (opened-sound g n least most) (inr (omega arith))
 
 -- opened at 1, nothing is below first
-pub none-below-one : (g : Setting) (m : ℕ) → Old (opened g 1) m → ⊥
+pub none-below-one : (g : Setting) (m : ℕ) → Old (opened g 1 .first) m → ⊥
 none-below-one g m old = omega (arith, old .0, old .1)
 
 -- opened at 7, a create that names 3 is granted and follows nothing

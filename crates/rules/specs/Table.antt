@@ -101,8 +101,8 @@ abbrev pub Issued : (next : ℕ) → ℕ → Type 0
 Issued next n = (1 ≤ n) × (n < next)
 
 -- those below first before this opening: the old numbers (document 02, request b)
-abbrev pub Old : Table → ℕ → Type 0
-Old t n = (1 ≤ n) × (n < t .first)
+abbrev pub Old : (first : ℕ) → ℕ → Type 0
+Old first n = (1 ≤ n) × (n < first)
 
 -- the patch with number n is in slot i
 abbrev pub InSlot : Table → ℕ → ℕ → Type 0

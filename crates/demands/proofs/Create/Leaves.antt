@@ -23,7 +23,7 @@ use Rattle.cut.specs.World.{Stage, waiting, Step}
 use Rattle.cut.proofs.Core.{step-keeps}
 use Rattle.demands.specs.History.{History, Accepted, Sent}
 use Rattle.demands.specs.Demand3.{Earlier, sentIn}
-use Rattle.demands.proofs.Log.{plain, Numbered, number-taken, Oldest, Once, oldest-in, newer-in}
+use Rattle.demands.proofs.Log.{plain, Numbered, names-older, Oldest, Once, oldest-in, newer-in}
 use Rattle.demands.proofs.Views.{Within, inside-of}
 use Rattle.demands.proofs.Notes.{sender, mem-left, mem-right}
 use Rattle.demands.proofs.Lookup.{carries, carries-used}
@@ -130,7 +130,7 @@ module _ {h : History} {c : create.Change} {j : ℕ} {k : Hold} (d : Making h c 
   created-good = record {
     sound = sound′ d;
     numbers = Numbered.fresh (new d) refl (d .good .numbers);
-    older = (λ n e. let i = d .passed .ready .issued n e in number-taken n (d .good .numbers) (i .0) (i .1), d .good .older);
+    older = (λ n e. names-older n (d .good .numbers) (d .passed .ready .issued n e), d .good .older);
     linked = record { block = block′; range = range′; single = single′; told = told′ };
     within = within′;
     image-whole = length-splice (h .image) _ _ ∙ d .good .image-whole;

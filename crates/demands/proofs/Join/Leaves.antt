@@ -19,7 +19,7 @@ use Rattle.cut.specs.World.{Stage, Step}
 use Rattle.cut.proofs.Core.{step-keeps}
 use Rattle.demands.specs.History.{History, Accepted, Sent}
 use Rattle.demands.specs.Demand3.{Earlier, sentIn}
-use Rattle.demands.proofs.Log.{plain, Numbered, number-taken, Oldest, Once}
+use Rattle.demands.proofs.Log.{plain, Numbered, names-older, Oldest, Once}
 use Rattle.demands.proofs.Views.{Within, inside-of}
 use Rattle.demands.proofs.Lookup.{carries-used, carries-number, carries-of}
 use Rattle.demands.proofs.AtSlot.{roomed, hard-no-room, wordOf, isDone, isOut}
@@ -110,7 +110,7 @@ module _ {h : History} {c : create.Change} {j : ℕ} (d : Joining h c j) where
   joined-good = record {
     sound = sound′ d;
     numbers = let o = older d in Numbered.joins (new d) (o .0) (o .1) (sym (o .2)) (sym older-block) (d .good .numbers);
-    older = (λ n e. let i = d .ready .issued n e in number-taken n (d .good .numbers) (i .0) (i .1), d .good .older);
+    older = (λ n e. names-older n (d .good .numbers) (d .ready .issued n e), d .good .older);
     linked = record { block = block′; range = range′; single = single′; told = told′ };
     within = within′;
     image-whole = length-splice (h .image) _ _ ∙ d .good .image-whole;
