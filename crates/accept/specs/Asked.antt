@@ -1,5 +1,5 @@
 -- Between crates, need not be believed: the questions of a creation that are not already a definition of `rules`.
-use Prim.Native.Nat.{ℕ, _≤_, _<_}
+use Prim.Native.Nat.{ℕ, _<_}
 use mathlib.Core.Path.{_≡_}
 use mathlib.Core.Bool.{true}
 use mathlib.Core.List.{List}

@@ -17,13 +17,14 @@ use Rattle.rules.specs.Create.{isIn}
 use Rattle.rules.specs.Ask.{askWord, Asked}
 use Rattle.rules.specs.Calls.{Writing, Writes, writeNumber, Asks}
 use Rattle.rules.proofs.Granted.{write-passed}
-use Rattle.demands.specs.History.{History, Accepted, Sent, those}
-use Rattle.demands.specs.Demand3.{onStore, sentIn, hasLanded, NotesTrue}
+use Rattle.demands.specs.History.{History, Accepted, Sent}
+use Rattle.demands.specs.Demand3.{sentIn, hasLanded, NotesTrue, Later}
 use Rattle.demands.proofs.Log.{number-least, number-taken, named-earlier, block-one}
 use Rattle.demands.proofs.Notes.{sent-in-both, mem-left}
 use Rattle.demands.proofs.Lookup.{slotOf, carries-used, carries-number, carries-of, at-slot, no-slot}
 use Rattle.demands.proofs.AtSlot.{stateAt, wordOf, isDone, isOut, waiting-word, flying-word, out-flies}
 use Rattle.demands.proofs.Good.{Good, none-out}
+use Rattle.demands.proofs.Later.{landed-for-good}
 
 -- a write that is noted sent what it sent
 noted-sent : (n : ℕ) (ws : List Sent) (w : Sent) → List·Memᴰ w ws → isIn n (w .numbers) ≡ true → sentIn n ws ≡ true
@@ -134,11 +135,8 @@ module _ (h : History) (g : Good h) where
   -- what a landed write sent is on the store after every cut
   with-all : (n : ℕ) → Asks (h .table) n ask.Committed → (a : Accepted) → List·Memᴰ a (h .accepted) → a .number ≡ n
       → (new : ℕ → Bool) → hasLanded new h a ≡ true
-  unfolding hasLanded onStore
   with-all n p a m e new =
-      sent-in-both (a .number) (those (λ w. new (w .block)) (h .inFlight)) (h .landed)
-      ∙ true-or-r (sentIn (a .number) (those (λ w. new (w .block)) (h .inFlight)))
-      (change-landed a m (subst (λ (x : ℕ). Asks (h .table) x ask.Committed) (sym e) p))
+      landed-for-good h a m (change-landed a m (subst (λ (x : ℕ). Asks (h .table) x ask.Committed) (sym e) p)) h Later.now new .1
 
   pub good-notes : NotesTrue h
   good-notes = record {

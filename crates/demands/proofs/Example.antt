@@ -30,7 +30,7 @@ use Rattle.demands.specs.History.{History, Accepted, Happened, Call, beg
 use Rattle.demands.specs.Demand3.{written, onStore, storeAfterCut, sentIn, hasLanded, carriedOut, Earlier, Follows}
 use Rattle.demands.proofs.Demand3.{demand-3}
 
-abbrev zeros : List ℕ
+abbrev pub zeros : List ℕ
 zeros = replicate imageBytes 0
 
 abbrev r0 : Radio
@@ -38,7 +38,7 @@ r0 = justOpened 1
 
 -- a name on block 1, the index on block 2 after it, a longer name over the first after the index, a note on block 3, and another note there after the first
 -- name, which joins the note's patch
-abbrev c1 : Change
+abbrev pub c1 : Change
 c1 = record { block = 1; offset = 0; bytes = replicate 4 10; named = [] }
 
 abbrev c2 : Change
@@ -47,10 +47,10 @@ c2 = record { block = 2; offset = 0; bytes = replicate 4 20; named = 1 ∷ [] }
 abbrev c3 : Change
 c3 = record { block = 1; offset = 2; bytes = replicate 4 11; named = 2 ∷ [] }
 
-abbrev c4 : Change
+abbrev pub c4 : Change
 c4 = record { block = 3; offset = 5; bytes = replicate 3 30; named = [] }
 
-abbrev c5 : Change
+abbrev pub c5 : Change
 c5 = record { block = 3; offset = 7; bytes = replicate 2 31; named = 1 ∷ [] }
 
 abbrev r1 : Radio
@@ -77,7 +77,7 @@ r7 = afterComplete r6 (completeGranted (r6 .table) 1)
 abbrev r8 : Radio
 r8 = afterWrite (writeGranted (r7 .table) (r7 .image) (r7 .undo) 3 8)
 
-abbrev lent : List ℕ
+abbrev pub lent : List ℕ
 lent = replicate blockBytes 9
 
 E1 : Made r0 c1 0 hold.Hard
@@ -203,7 +203,7 @@ abbrev pub one-lands : ℕ → Bool
 one-lands b = eqb b 3
 
 -- the store after it: the first name and both notes, the second over the first, without a byte of the longer name or of the index
-abbrev both : List ℕ
+abbrev pub both : List ℕ
 both = splice (splice (splice zeros 256 (replicate 4 10)) 773 (replicate 3 30)) 775 (replicate 2 31)
 
 pub store-is : storeAfterCut one-lands end ≡ both

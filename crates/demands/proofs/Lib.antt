@@ -12,10 +12,12 @@ pub mod Complete
 pub mod Write
 pub mod Histories
 pub mod Safe
-pub mod Besides
 pub mod Later
+pub mod Besides
 pub mod Demand3
 pub mod Reach
+pub mod Life
 pub mod QuestionFour
 pub mod QuestionSeven
 pub mod Example
+pub mod ExampleLife

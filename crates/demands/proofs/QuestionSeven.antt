@@ -6,10 +6,11 @@ use lib.ListN.{getD}
 use native.Mathlib.Omega.{arith}
 use Rattle.rules.specs.Calls.{Creation, Writing, Completion}
 use Rattle.demands.specs.Demand3.{hasLanded}
-use Rattle.demands.specs.QuestionSeven.{Holds, QuestionSeven}
+use Rattle.demands.specs.QuestionSeven.{Holds, QuestionSeven, QuestionSevenForLife}
 use Rattle.demands.proofs.Histories.{happened-good}
 use Rattle.demands.proofs.Demand3.{demand-3}
 use Rattle.demands.proofs.Reach.{create-reaches, write-reaches, place-holds}
+use Rattle.demands.proofs.Life.{life-place}
 
 pub question-seven : QuestionSeven
 question-seven = record {
@@ -24,3 +25,6 @@ question-seven = record {
       subst (λ (s : List ℕ). Holds (hasLanded new h) (h .accepted) (h .opening) p (getD s p 0)) (sym (demand-3 w new .holds))
       (place-holds (hasLanded new h) (h .accepted) (h .opening) p (omega (arith, happened-good w .opening-whole)));
 }
+
+pub question-seven-for-life : QuestionSevenForLife
+question-seven-for-life = record { store = life-place }

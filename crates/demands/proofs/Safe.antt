@@ -63,6 +63,12 @@ by-state false inFlight = refl
 by-state true committed = refl
 by-state false committed = refl
 
+-- where all changes of a log pass a test, those that do are the log
+only-all : (test : Logged → Bool) (l : List Accepted) → ((a : Accepted) → List·Memᴰ a l → test (plain a) ≡ true) → only test (map plain l) ≡ map plain l
+unfolding only
+only-all test [] f = refl
+only-all test (a ∷ l) f = rw (f a (List·Memᴰ·head refl)) (ap (λ (r : List Logged). plain a ∷ r) (only-all test l (λ x m. f x (List·Memᴰ·tail m))))
+
 module _ (h : History) (g : Good h) (new : ℕ → Bool) where
   pub landed-agrees : (a : Accepted) → List·Memᴰ a (h .accepted) → hasLanded new h a ≡ landed new (radio.world h) (plain a)
   unfolding hasLanded onStore landed
@@ -89,6 +95,15 @@ module _ (h : History) (g : Good h) (new : ℕ → Bool) where
       view-same (storeAfterCut new h) (carriedOut (hasLanded new h) (h .accepted) (h .opening))
       (length-written (onStore new h) (h .opening) ∙ g .opening-whole) (length-carried (hasLanded new h) (h .accepted) (h .opening) ∙ g .opening-whole)
       (λ b i. cut-seen b i ∙ safe .holds b i ∙ sym (carried b i))
+
+  -- where every change has landed the store holds the working image
+  pub all-landed : ((a : Accepted) → List·Memᴰ a (h .accepted) → hasLanded new h a ≡ true) → storeAfterCut new h ≡ h .image
+  unfolding storeAfterCut
+  all-landed f =
+      view-same (storeAfterCut new h) (h .image) (length-written (onStore new h) (h .opening) ∙ g .opening-whole) (g .image-whole)
+      (λ b i. cut-seen b i ∙ safe .holds b i
+      ∙ ap (λ (l : List Logged). after l (view (h .opening)) b i) (only-all (landed new (radio.world h)) (h .accepted) (λ a m. sym (landed-agrees a m) ∙ f a m))
+      ∙ sym (g .safe .image b i))
 
   asked : (y x : Accepted) → AskedFor h y x → world.AskedEarlier (radio.world h) (plain y) (plain x)
   asked y x a = record {

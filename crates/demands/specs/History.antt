@@ -89,8 +89,8 @@ afterWrite h b o = record {
   landed = h .landed;
 }
 
--- the writes that pass a test, in their order
-unfoldable pub those : (Sent → Bool) → List Sent → List Sent
+-- those of a list that pass a test, in their order
+unfoldable pub those : {A : Type 0} → (A → Bool) → List A → List A
 those test [] = []
 those test (w ∷ older) = cond (test w) (w ∷ those test older) (those test older)
 

@@ -1,5 +1,6 @@
--- Histories of calls, what a cut leaves of them, and the two questions.
+-- Histories of calls, what a cut leaves of them, the life that several make, and the two questions.
 pub mod History
 pub mod Demand3
+pub mod Life
 pub mod QuestionFour
 pub mod QuestionSeven

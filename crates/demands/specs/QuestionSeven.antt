@@ -14,6 +14,7 @@ use Rattle.rules.specs.Create.{Change, place}
 use Rattle.rules.specs.Calls.{Creation, Creates, createNumber, hardOrSoft, Writing, Writes, writeNumber, Completion, Completes, plainNumber}
 use Rattle.demands.specs.History.{History, Accepted, Happened}
 use Rattle.demands.specs.Demand3.{storeAfterCut, hasLanded}
+use Rattle.demands.specs.Life.{PowerUp, storeLeft, Lived, allLanded, every}
 
 -- the two lists are equal but for the n bytes from place `at`
 pub record SameBut (at n : ℕ) (old new : List ℕ) : Type 0 where
@@ -55,3 +56,9 @@ pub record QuestionSeven : Type 0 where
   -- landed change that names it
   pub store : (h : History) → Happened h → (new : ℕ → Bool) (p : ℕ) → p < imageBytes
       → Holds (hasLanded new h) (h .accepted) (h .opening) p (getD (storeAfterCut new h) p 0)
+
+pub record QuestionSevenForLife : Type 0 where
+  -- after any number of power-ups, calls and cuts: a place that no landed change of any of them names holds the byte it held before the first, any other the
+  -- byte of the last accepted landed change that names it
+  pub store : (store : List ℕ) (life : List PowerUp) → Lived store life → (p : ℕ) → p < imageBytes
+      → Holds every (allLanded life) store p (getD (storeLeft life store) p 0)
