@@ -15,7 +15,7 @@ question-four-for-life = record {
   at-any-cut = life-holds;
   each-safe = λ store life l u m. demand-3 (each-happened l u m) (u .new);
   by-true-notes = λ store life l u m. notes-true (each-happened l u m);
-  for-good = λ store life l u m. life-for-good life u m;
+  for-good = life-for-good;
   names-stay = names-stay;
   at-rest = λ h w rest new. (rest-landed h w rest new, rest-image h w rest new);
 }

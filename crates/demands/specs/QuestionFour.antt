@@ -25,8 +25,8 @@ pub record QuestionFourForLife : Type 0 where
   pub each-safe : (store : List ℕ) (life : List PowerUp) → Lived store life → (u : PowerUp) → List·Memᴰ u life → CutSafe (u .history) (u .new)
   pub by-true-notes : (store : List ℕ) (life : List PowerUp) → Lived store life → (u : PowerUp) → List·Memᴰ u life → NotesTrue (u .history)
   -- a change that ask has called committed at some moment h of a power-up is among the landed ones ever after
-  pub for-good : (store : List ℕ) (life : List PowerUp) → Lived store life → (u : PowerUp) → List·Memᴰ u life
-      → (h : History) → Happened h → Later h (u .history) → (a : Accepted) → List·Memᴰ a (h .accepted) → Asks (h .table) (a .number) ask.Committed
+  pub for-good : (life : List PowerUp) (u : PowerUp) → List·Memᴰ u life → (h : History) → Happened h → Later h (u .history)
+      → (a : Accepted) → List·Memᴰ a (h .accepted) → Asks (h .table) (a .number) ask.Committed
       → List·Memᴰ a (allLanded life)
   -- names stay good: in a history h′ that was opened at a number not below the next of h, ask calls the number of every change of h committed, at every
   -- moment, and no change of h′ has it

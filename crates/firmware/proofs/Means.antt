@@ -1,7 +1,7 @@
 -- A run is a history: every function, granted or refused, does to the table that the bytes mean what its call does, and the notes are the
 -- same. Assumes nothing.
 use Prim.Native.Nat.{ℕ}
-use mathlib.Core.Path.{_≡_, refl, sym, ap, subst, subst₂}
+use mathlib.Core.Path.{_≡_, refl, sym, _∙_, ap, subst, subst₂}
 use mathlib.Core.Bool.{Bool, true, false, cond}
 use mathlib.Core.List.{List}
 use native.Mathlib.Decide.{ℕ-discrete}
@@ -16,14 +16,16 @@ use Rattle.rules.specs.Create.{Change}
 use Rattle.rules.specs.Ask.{askWord}
 use Rattle.rules.specs.Calls.{Opening, Creation, Creates, Accepts, createNumber, createRefused, createGranted, createJoined, sentSet}
 use Rattle.rules.specs.Calls.{Writing, Writes, writeNumber, writeRefused, writeGranted}
-use Rattle.rules.specs.Calls.{Completion, Completes, plainNumber, completeRefused, completeGranted, Asks}
+use Rattle.rules.specs.Calls.{Completion, Completes, plainNumber, completeRefused, completeGranted, askNumber, Asks}
+use Rattle.rules.proofs.OneAnswer.{ask-one}
 use Rattle.demands.specs.History as history
 use Rattle.demands.specs.History.{History}
 use Rattle.demands.specs.Demand3 as demand
+use Rattle.demands.specs.Life.{PowerUp, Lived}
 use Rattle.board.specs.Layout.{tableIn, IsTable, bytesOf}
 use Rattle.board.specs.Calls.{tableAfter, CreateEnd, createEnd, WriteEnd, writeEnd, AskCall}
 use Rattle.board.proofs.Kept.{Bytes, bytes-of, open-kept, create-kept, write-kept, complete-kept}
-use Rattle.firmware.specs.Run.{Run, meant, runBegun, runCreate, runWrite, runComplete, RunCall, HasRun, RunsOn}
+use Rattle.firmware.specs.Run.{Run, meant, runBegun, runCreate, runWrite, runComplete, RunCall, HasRun, RunsOn, HasLived}
 
 -- a history with another table
 abbrev withTable : History → Table → History
@@ -200,3 +202,15 @@ later g (RunsOn.then l c) = let w = later g l in let s = step (w .0) c in (s .af
 
 pub later-is-later : {r r′ : Run} → HasRun r → RunsOn r r′ → demand.Later (meant r) (meant r′)
 later-is-later w l = later (means w .0) l .1
+
+-- what is called committed, ask answers with 3
+pub answers-three : {r : Run} {n : ℕ} → HasRun r → Asks (tableIn (r .bytes)) n ask.Committed → (k s : ℕ) → AskCall (r .bytes) n k s → (k ≡ 0) × (s ≡ 3)
+answers-three {r} {n} w c k s p =
+    let q = p .is-table (means w .0 .is-table) in
+    let same = ask-one (tableIn (r .bytes)) n (q .0) ask.Committed (q .1) c in
+    (q .2 ∙ ap askNumber same, q .3 ∙ ap askWord same)
+
+-- and a life of runs is a life
+pub life-is-life : {store : List ℕ} {life : List PowerUp} → HasLived store life → Lived store life
+life-is-life (HasLived.begins e) = Lived.begins e
+life-is-life (HasLived.again r new l w e) = Lived.again (meant r) new (life-is-life l) (run-is-history w) e

@@ -1,5 +1,5 @@
 -- Questions four and seven of a firmware that links the library, in the words of `demands`.
-use Prim.Native.Nat.{ℕ, _+_, _<_}
+use Prim.Native.Nat.{ℕ, _+_, _≤_, _<_}
 use mathlib.Core.Path.{_≡_}
 use mathlib.Core.Bool.{Bool, true}
 use mathlib.Core.List.{List, List·Memᴰ}
@@ -7,10 +7,12 @@ use lib.ListN.{length, getD}
 use Rattle.rules.specs.Sizes.{imageBytes, roomStart}
 use Rattle.rules.specs.Create.{Change, place}
 use Rattle.demands.specs.History.{Accepted}
-use Rattle.demands.specs.Demand3.{storeAfterCut, hasLanded, CutSafe, NotesTrue}
+use Rattle.demands.specs.Demand3.{storeAfterCut, hasLanded, carriedOut, CutSafe, NotesTrue}
+use Rattle.demands.specs.Life.{PowerUp, powerUp, storeLeft, allLanded, every, AtRest}
 use Rattle.demands.specs.QuestionSeven.{SameBut, Holds}
+use Rattle.board.specs.Layout.{tableIn}
 use Rattle.board.specs.Calls.{CreateEnd, CreateCall, WriteEnd, WriteCall, CompleteCall, AskCall}
-use Rattle.firmware.specs.Run.{Run, meant, HasRun, RunsOn}
+use Rattle.firmware.specs.Run.{Run, meant, HasRun, RunsOn, HasLived}
 
 -- question four
 pub record FirmwareQuestionFour : Type 0 where
@@ -21,6 +23,27 @@ pub record FirmwareQuestionFour : Type 0 where
   -- a change whose number ask has answered with 3, committed, is on the store after every later cut
   pub for-good : (r : Run) → HasRun r → (a : Accepted) → List·Memᴰ a (r .accepted) → (refusal : ℕ) → AskCall (r .bytes) (a .number) refusal 3
       → (r′ : Run) → RunsOn r r′ → (new : ℕ → Bool) → List·Memᴰ a (r′ .accepted) × (hasLanded new (meant r′) a ≡ true)
+
+-- question four for the radio's whole life
+pub record FirmwareQuestionFourForLife : Type 0 where
+  -- after any number of power-ups, calls and cuts the store holds what it held before the first of them, with the landed changes of all carried out singly in
+  -- the order accepted
+  pub at-any-cut : (store : List ℕ) (life : List PowerUp) → HasLived store life → storeLeft life store ≡ carriedOut every (allLanded life) store
+  -- within each power-up all that its landed changes asked to have before them is landed, and the notes are true
+  pub each-safe : (store : List ℕ) (life : List PowerUp) → HasLived store life → (u : PowerUp) → List·Memᴰ u life → CutSafe (u .history) (u .new)
+  pub by-true-notes : (store : List ℕ) (life : List PowerUp) → HasLived store life → (u : PowerUp) → List·Memᴰ u life → NotesTrue (u .history)
+  -- a change whose number ask has answered with 3, committed, at some moment r of a power-up is among the landed ones ever after
+  pub for-good : (life : List PowerUp) (r r′ : Run) (new : ℕ → Bool) → HasRun r → RunsOn r r′ → List·Memᴰ (powerUp (meant r′) new) life
+      → (a : Accepted) → List·Memᴰ a (r .accepted) → (refusal : ℕ) → AskCall (r .bytes) (a .number) refusal 3
+      → List·Memᴰ a (allLanded life)
+  -- names stay good: in a run r′ that was opened at a number not below the next of r, ask answers the number of every change of r with 3, at every moment, and
+  -- no change of r′ has it
+  pub names-stay : (r r′ : Run) → HasRun r → HasRun r′ → tableIn (r .bytes) .next ≤ tableIn (r′ .bytes) .first → (a : Accepted) → List·Memᴰ a (r .accepted)
+      → ((refusal state : ℕ) → AskCall (r′ .bytes) (a .number) refusal state → (refusal ≡ 0) × (state ≡ 3))
+      × ((x : Accepted) → List·Memᴰ x (r′ .accepted) → x .number ≡ a .number → ⊥)
+  -- and mean what they say where r ended at rest: every change of it has landed, whatever the cut, and the store holds the working image
+  pub at-rest : (r : Run) → HasRun r → AtRest (meant r) → (new : ℕ → Bool)
+      → ((a : Accepted) → List·Memᴰ a (r .accepted) → hasLanded new (meant r) a ≡ true) × (storeAfterCut new (meant r) ≡ r .image)
 
 -- a create that answers 0 changes no byte of the image outside the range it names, and of the undo area none but the first bytes of the one room it takes
 pub record CreateEndReaches (image undo : List ℕ) (c : Change) (e : CreateEnd) : Type 0 where
@@ -43,3 +66,10 @@ pub record FirmwareQuestionSeven : Type 0 where
   -- landed change that names it
   pub store : (r : Run) → HasRun r → (new : ℕ → Bool) (p : ℕ) → p < imageBytes
       → Holds (hasLanded new (meant r)) (r .accepted) (r .opening) p (getD (storeAfterCut new (meant r)) p 0)
+
+-- question seven for the radio's whole life
+pub record FirmwareQuestionSevenForLife : Type 0 where
+  -- after any number of power-ups, calls and cuts: a place that no landed change of any of them names holds the byte it held before the first, any other the
+  -- byte of the last accepted landed change that names it
+  pub store : (store : List ℕ) (life : List PowerUp) → HasLived store life → (p : ℕ) → p < imageBytes
+      → Holds every (allLanded life) store p (getD (storeLeft life store) p 0)

@@ -3,13 +3,14 @@
 -- answers 0.
 use Prim.Native.Nat.{ℕ}
 use mathlib.Core.Path.{_≡_}
-use mathlib.Core.Bool.{cond, not}
+use mathlib.Core.Bool.{Bool, cond, not}
 use mathlib.Core.List.{List, [], _∷_, _++_}
 use lib.Dec.{eqb}
 use lib.ListN.{length}
 use Rattle.rules.specs.Sizes.{slots, imageBytes}
 use Rattle.rules.specs.Create.{Change}
 use Rattle.demands.specs.History.{Accepted, Sent, History, numbersBelow, those}
+use Rattle.demands.specs.Life.{PowerUp, powerUp, storeLeft}
 use Rattle.board.specs.Layout.{tableBytes, tableIn}
 use Rattle.board.specs.Calls.{OpenCall, CreateEnd, CreateCall, WriteEnd, WriteCall, CompleteCall, AskCall, CountCall}
 
@@ -91,3 +92,9 @@ pub data HasRun : Run → Type 0 where
 pub data RunsOn (r : Run) : Run → Type 0 where
   now : RunsOn r r
   then : {r′ r″ : Run} → RunsOn r r′ → RunCall r′ r″ → RunsOn r r″
+
+-- a life that can be: on any store of 16,384 bytes any number of runs, each opened on what the cut before it left
+pub data HasLived (store : List ℕ) : List PowerUp → Type 0 where
+  begins : length store ≡ imageBytes → HasLived store []
+  again : {life : List PowerUp} (r : Run) (new : ℕ → Bool) → HasLived store life → HasRun r → r .opening ≡ storeLeft life store
+      → HasLived store (powerUp (meant r) new ∷ life)

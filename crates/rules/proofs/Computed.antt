@@ -33,8 +33,10 @@ issued t [] n a e = absurd (clash e refl)
 issued t (m ∷ l) n a e =
     let w = and-true (leb 1 m && ltb m (t .next)) (allIssued t l) a in
     let v = and-true (leb 1 m) (ltb m (t .next)) (w .0) in
+    let low = leb-true 1 m (v .0) in
+    let high = ltb-true m (t .next) (v .1) in
     ⊎-elim
-    (λ q. subst (Issued (t .next)) (sym (eqb-true n m q)) (leb-true 1 m (v .0), ltb-true m (t .next) (v .1)))
+    (λ q. subst (Issued (t .next)) (sym (eqb-true n m q)) (omega arith, omega arith))
     (λ q. issued t l n (w .1) q)
     (or-true (eqb n m) (isIn n l) e)
 

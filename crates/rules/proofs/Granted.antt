@@ -20,6 +20,7 @@ use Rattle.rules.specs.Passed.{NamesIssued, CreatePassed, WritePassed}
 use Rattle.rules.specs.Refusals.{First, OnlyEmpty, NamesUnissued, createCases, writeCases}
 use Rattle.rules.specs.Calls.{Creation, Creates, createNumber, Writing, Writes, writeNumber}
 use Rattle.rules.proofs.Cases.{passed}
+use Rattle.rules.proofs.Numbers.{never-issued, issued-or-not}
 
 -- ---- a refusal that does not hold says only that its opposite cannot fail; each of these opposites then holds
 
@@ -55,7 +56,7 @@ sound-holds t n = record {
 }
 
 pub issued-holds : (t : Table) (c : Change) → (NamesUnissued t c → ⊥) → NamesIssued t c
-issued-holds t c f n e = (at-most (λ d. f (n, e, λ i. d (i .0))), below (λ d. f (n, e, λ i. d (i .1))))
+issued-holds t c f n e = ⊎-elim (λ i. i) (λ w. absurd (f (n, e, never-issued w))) (issued-or-not (t .next) n)
 
 waits-holds : (ss : List Slot) (b : ℕ) → ((Waits ss b → ⊥) → ⊥) → Waits ss b
 waits-holds ss b f = set-some (waitsOn ss b) refl (λ z. f (λ w. set-none (waitsOn ss b) refl z (w .0) (w .1) (w .2)))

@@ -1,6 +1,7 @@
 -- Laws that pin the definitions, and the worked rows.
 pub mod Cases
 pub mod Outcomes
+pub mod Numbers
 pub mod SlotsBy
 pub mod After
 pub mod Words

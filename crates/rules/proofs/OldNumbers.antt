@@ -3,9 +3,8 @@
 use Prim.Native.Nat.{ℕ, _≤_, _<_}
 use mathlib.Core.Path.{_≡_, refl}
 use mathlib.Core.List.{_∷_, []}
-use mathlib.Core.Logic.{_⊎_, inl, inr}
+use mathlib.Core.Logic.{_⊎_, inl, inr, ⊎-elim}
 use native.Mathlib.Omega.{arith}
-use native.Mathlib.Decide.{ℕ-discrete, decLe}
 use Rattle.masks.specs.Sets.{bit, has, setBelow, someBelow}
 use Rattle.rules.specs.declared.AskAnswer.{AskAnswer}
 use Rattle.rules.specs.declared.AskAnswer.the-variants as ask
@@ -23,6 +22,7 @@ use Rattle.rules.specs.Calls.{Asks}
 use Rattle.rules.specs.Rows.{Radio}
 use Rattle.rules.proofs.Cases.{holds, passes, none-holds}
 use Rattle.rules.proofs.Outcomes.{refuses, grants}
+use Rattle.rules.proofs.Numbers.{never-issued, issued-or-not}
 use Rattle.rules.proofs.Pins.{naming, committed-dropped, committed-not-added}
 use Rattle.rules.proofs.StaysSound.{opened-sound}
 use Rattle.rules.proofs.OneAnswer.{ask-one}
@@ -31,29 +31,21 @@ use Rattle.rules.proofs.Steps.{justOpened, just-opened-good, Made, crea
 
 -- ---- 7 holds for 0 and for numbers not below next, and for no other
 
-pub never-issued : (t : Table) (n : ℕ) → NeverIssued t n → (n ≡ 0) ⊎ (t .next ≤ n)
-never-issued t n d = go (ℕ-discrete n 0) (decLe (t .next) n)
-  where
-    go : Dec (n ≡ 0) → Dec (t .next ≤ n) → (n ≡ 0) ⊎ (t .next ≤ n)
-    go (yes z) k = inl z
-    go (no z) (yes l) = inr l
-    go (no z) (no l) = absurd (d (omega arith, omega arith))
+pub seven-only : (t : Table) (n : ℕ) → NeverIssued t n → (n ≡ 0) ⊎ (t .next ≤ n)
+seven-only t n d = ⊎-elim (λ i. absurd (d i)) (λ w. w) (issued-or-not (t .next) n)
 
 pub refused-seven : (t : Table) (n : ℕ) → Sound t → (n ≡ 0) ⊎ (t .next ≤ n) → (a : AskAnswer) → Asks t n a → a ≡ ask.Refused 7
-refused-seven t n s w a p = ask-one t n a (ask.Refused 7) p (refuses 7 (passes (λ u. u s) (holds (never w))) refl (λ e. omega arith))
-  where
-    never : (n ≡ 0) ⊎ (t .next ≤ n) → NeverIssued t n
-    never (inl z) i = omega (arith, i .0)
-    never (inr l) i = omega (arith, i .1)
+refused-seven t n s w a p = ask-one t n a (ask.Refused 7) p (refuses 7 (passes (λ u. u s) (holds (never-issued w))) refl (λ e. omega arith))
 
 -- ---- an old number has committed
 
 module _ (t : Table) (s : Sound t) (n : ℕ) (old : Old (t .first) n) where
   pub old-committed : Committed t n
   old-committed =
-      let l = old .1 in
+      let least = old .0 in
+      let below = old .1 in
       let m = s .next-least in
-      ((old .0, omega arith), λ i at. let least = s .number-least i (at .0) (at .1) in let is = at .2 in omega arith)
+      ((omega arith, omega arith), λ i at. let least = s .number-least i (at .0) (at .1) in let is = at .2 in omega arith)
 
   -- asked, it is called committed
   pub old-asks : Asks t n ask.Committed
