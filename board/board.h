@@ -13,12 +13,20 @@
  * changes answered it so far, and for none that is answered it later; board_ask says where the patch is, and with it all of them;
  * board_count counts patches, not changes. Do not keep anything by number that is meant for one change alone.
  *
+ * OLD NUMBERS. A number from 1 to first - 1 is from before this opening and means committed: board_ask says 3, and a change that
+ * names it follows nothing for it. Open at the old next number (board_next; keep it where it survives) or above it: no number is
+ * given twice, and the names that the menus hold stay good. If it is lost, open at 1 and forget all old numbers, as they would
+ * come to mean new changes.
+ * - After a deep sleep: each of them is on the store if nothing waited and nothing was in flight before it. So write and complete
+ *   until board_count gives 0 for every block and no completion is outstanding; then sleep.
+ * - After a power cut: each that board_ask had called committed is on the store. A change that waited or was in flight may be lost,
+ *   and its number means committed all the same, as nobody is left who knows. Forget those numbers, or look into the image.
+ *
  * YOUR PART
  * - Before board_open, fill the working image from the store: what it held is what every later change lies over.
  * - Table, working image AND undo area belong together. To go on after a sleep keep all three; with one of them lost, open anew
  *   from the store. Nobody else writes to them.
- * - After a power cut, fill the image from the store and open again. Any first number will do; one that is not below the last
- *   `next` keeps old numbers from meaning new changes (a number below the first is refused, 7).
+ * - After a power cut, fill the image from the store and open again: at which number, see OLD NUMBERS.
  * - One call at a time, and no reset inside one: a call that is broken off leaves the table, the image and the undo area half made.
  * - Pass the bytes handed out to the store as they are, a block whole or not at all. Every write that was granted is to be passed
  *   on, and its completion told with board_complete, but not before the bytes are there: what was told is taken to be on the store.
@@ -95,12 +103,18 @@ static inline const char *board_words(uint32_t refusal)
     return refusal < sizeof words / sizeof words[0] ? words[refusal] : "no refusal has this number";
 }
 
+/* The next number of a table: what to open at after a deep sleep or a cut (OLD NUMBERS). Tests nothing. */
+static inline uint32_t board_next(const uint8_t *table)
+{
+    return table[4] | (uint32_t)table[5] << 8 | (uint32_t)table[6] << 16 | (uint32_t)table[7] << 24;
+}
+
 /* An empty table whose first and next number are `first`. Tests 2 (the length only), then 15. */
 uint32_t board_open(uint8_t *table, size_t table_len, uint32_t first);
 
-/* A change of `bytes` at `offset` of `block`, after all changes answered so far with the numbers named. It goes into the working
- * image. number: the change's; a new one, or that of the waiting patch it joins. hold: 1 hard, 2 + r soft with undo room r. Tests
- * 1 to 10, but 8 and 9 not for a change that joins. */
+/* A change of `bytes` at `offset` of `block`, after all changes answered so far with the numbers named (for an old number, after
+ * none). It goes into the working image. number: the change's; a new one, or that of the waiting patch it joins. hold: 1 hard,
+ * 2 + r soft with undo room r. Tests 1 to 10, but 8 and 9 not for a change that joins. */
 uint32_t board_create(uint8_t *table, size_t table_len, uint8_t *image, size_t image_len, uint8_t *undo, size_t undo_len,
                       uint32_t block, uint32_t offset, const uint8_t *bytes, size_t bytes_len, const uint32_t *named,
                       size_t named_len, uint32_t *number, uint32_t *hold);
@@ -113,7 +127,8 @@ uint32_t board_write(uint8_t *table, size_t table_len, const uint8_t *image, siz
 /* The block has landed: its changes in flight commit. Tests 2, 3, 14. */
 uint32_t board_complete(uint8_t *table, size_t table_len, uint32_t block);
 
-/* Where the patch with the number is, and so all changes answered it. state: 1 waiting, 2 in flight, 3 committed. Tests 2, 7. */
+/* Where the patch with the number is, and so all changes answered it. state: 1 waiting, 2 in flight, 3 committed, as
+ * every old number is. Tests 2, 7 (0, or not below next). */
 uint32_t board_ask(const uint8_t *table, size_t table_len, uint32_t asked, uint32_t *state);
 
 /* count: how many patches of the block wait; the changes of one number are one patch. Tests 2, 3. */

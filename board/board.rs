@@ -72,6 +72,11 @@ fn granted<T>(refusal: u32, answer: T) -> Result<T, u32> {
     if refusal == 0 { Ok(answer) } else { Err(refusal) }
 }
 
+/// The next number of a table: what to open at after a deep sleep or a cut ("old numbers" in board.h).
+pub fn next(table: &Table) -> u32 {
+    u32::from_le_bytes([table[4], table[5], table[6], table[7]])
+}
+
 /// An empty table whose first number is `first`. Refused 15, `table` is the empty one with first 1.
 pub fn open(table: &mut Table, first: u32) -> Result<(), u32> {
     // SAFETY: a reference is valid for its array, and the callee keeps no pointer. So in each function below, where the
@@ -112,7 +117,7 @@ pub fn complete(table: &mut Table, block: u32) -> Result<(), u32> {
     granted(unsafe { board_complete(table.as_mut_ptr(), TABLE, block) }, ())
 }
 
-/// Where the patch with the number is, and so all changes answered it. Refused 2, 7.
+/// Where the patch with the number is, and so all changes answered it; an old number has committed. Refused 2, 7.
 pub fn ask(table: &Table, asked: u32) -> Result<State, u32> {
     let mut state = 0;
     let refusal = unsafe { board_ask(table.as_ptr(), TABLE, asked, &mut state) };

@@ -1,6 +1,7 @@
 /* Stores a station over two blocks, in order: its name on block 1, then the index entry on block 2 that names it. The
  * index must not reach the store before the name, so the second change names the first. A third, on the entry's block,
- * joins the entry: it is answered the same number and goes with it. `send` stands for the radio's own driver. */
+ * joins the entry: it is answered the same number and goes with it. Then the radio sleeps, opens at its next number and names
+ * the entry from before. `send` stands for the radio's own driver. */
 #include <inttypes.h>
 #include <stdio.h>
 #include <string.h>
@@ -40,11 +41,9 @@ static void flush(uint32_t from)
         printf("write of block %" PRIu32 ": %s\n", from, board_words(refusal));
 }
 
-int main(void)
+/* The station is stored; gives the number of its entry, 0 where something was refused. */
+static uint32_t store(void)
 {
-    uint32_t state, waiting;
-    if (board_open(table, sizeof table, 1) != BOARD_GRANTED)
-        return 1;
     uint32_t none = 0;
     uint32_t name = change(1, 0, "KRTL", &none, 0);
     uint32_t entry = change(2, 0, "\x01", &name, 1);
@@ -53,13 +52,33 @@ int main(void)
     flush(1);
     flush(2); /* 13 still: the name is only in flight */
     if (board_complete(table, sizeof table, 1) != 0) /* the driver says that block 1 has landed */
-        return 1;
+        return 0;
     flush(2);
-    if (board_complete(table, sizeof table, 2) != 0)
-        return 1;
+    return board_complete(table, sizeof table, 2) == 0 ? entry : 0;
+}
+
+/* Where the entry is: committed means that it and what joined it are on the store. */
+static int say(uint32_t entry)
+{
+    uint32_t state, waiting;
     if (board_ask(table, sizeof table, entry, &state) != 0 || board_count(table, sizeof table, 2, &waiting) != 0)
-        return 1;
-    /* committed: the entry and what joined it are on the store */
+        return 0;
     printf("entry: state %" PRIu32 ", %" PRIu32 " waiting on block 2\n", state, waiting);
+    return 1;
+}
+
+int main(void)
+{
+    if (board_open(table, sizeof table, 1) != BOARD_GRANTED)
+        return 1;
+    uint32_t entry = store();
+    if (!say(entry))
+        return 1;
+    /* At rest: the radio may sleep. It keeps its next number, and at start-up fills the image from the store. */
+    uint32_t next = board_next(table);
+    if (board_open(table, sizeof table, next) != BOARD_GRANTED || !say(entry))
+        return 1;
+    change(3, 0, "NEWS", &entry, 1); /* the menu's old number is good, and the change follows nothing */
+    flush(3);
     return 0;
 }

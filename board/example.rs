@@ -37,8 +37,8 @@ impl Radio {
     }
 }
 
-fn session(radio: &mut Radio) -> Result<(), u32> {
-    board::open(&mut radio.table, 1)?;
+/// The station is stored; gives the number of its entry.
+fn store(radio: &mut Radio) -> Result<u32, u32> {
     let name = radio.change(1, 0, b"KRTL", &[]);
     let entry = radio.change(2, 0, b"\x01", &[name]);
     radio.change(2, 1, b"\x63", &[]); // the preset's key: joins the entry, and has its number
@@ -48,9 +48,27 @@ fn session(radio: &mut Radio) -> Result<(), u32> {
     board::complete(&mut radio.table, 1)?; // the driver says that block 1 has landed
     radio.flush(2);
     board::complete(&mut radio.table, 2)?;
-    let state = board::ask(&radio.table, entry)? as u32 + 1; // committed: the entry and what joined it are on the store
+    Ok(entry)
+}
+
+/// Where the entry is: committed means that it and what joined it are on the store.
+fn say(radio: &Radio, entry: u32) -> Result<(), u32> {
+    let state = board::ask(&radio.table, entry)? as u32 + 1;
     let waiting = board::count(&radio.table, 2)?;
     println!("entry: state {state}, {waiting} waiting on block 2");
+    Ok(())
+}
+
+fn session(radio: &mut Radio) -> Result<(), u32> {
+    board::open(&mut radio.table, 1)?;
+    let entry = store(radio)?;
+    say(radio, entry)?;
+    // At rest: the radio may sleep. It keeps its next number, and at start-up fills the image from the store.
+    let next = board::next(&radio.table);
+    board::open(&mut radio.table, next)?;
+    say(radio, entry)?;
+    radio.change(3, 0, b"NEWS", &[entry]); // the menu's old number is good, and the change follows nothing
+    radio.flush(3);
     Ok(())
 }
 

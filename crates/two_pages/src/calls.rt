@@ -3,6 +3,7 @@ use crate::say;
 use crate::say::Row;
 use cache::types::Table;
 use rules::Answer;
+use rules::AskAnswer;
 use rules::CountAnswer;
 use rules::CreateAnswer;
 use rules::Hold;
@@ -152,6 +153,20 @@ pub fn count(t: Table, row: Row, block: u32) {
     match answer {
         CountAnswer::Granted(n) => say::field(b"waiting ", n),
         CountAnswer::Refused(k) => refused(k),
+    }
+    say::text(b"\n");
+}
+
+pub fn ask(t: Table, row: Row, number: u32) {
+    let answer = t.ask(number);
+    say::label(row);
+    say::field(b" ask ", number);
+    say::text(b": ");
+    match answer {
+        AskAnswer::Waiting => say::text(b"waiting"),
+        AskAnswer::InFlight => say::text(b"in flight"),
+        AskAnswer::Committed => say::text(b"committed"),
+        AskAnswer::Refused(k) => refused(k),
     }
     say::text(b"\n");
 }

@@ -1,9 +1,10 @@
-// Document 01's examples, with the answers of document 02, request a, run: the session of two pages, its
-// branch and the edges; then examples of joining. Each call's whole answer is a line on
+// Document 01's examples, with the answers of document 02, requests a and b, run: the session of two pages, its
+// branch and the edges; then examples of joining and of old numbers. Each call's whole answer is a line on
 // standard output, to be read beside the papers; `stdout` beside src/ is what it must write.
 mod calls;
 mod edges;
 mod joins;
+mod old;
 mod pages;
 mod say;
 
@@ -22,4 +23,7 @@ fn main() {
     edges::rooms(&mut image, &mut undo);
     joins::befores(&mut image, &mut undo);
     joins::overlap(&mut image, &mut undo);
+    old::asked();
+    old::named(&mut image, &mut undo);
+    old::sleep(&mut image, &mut undo);
 }

@@ -5,7 +5,7 @@ use libc::STDOUT_FILENO;
 use rules::sizes::SLOTS;
 
 // The row of the paper's table that a line belongs to, or its opening, its branch, which of the edges,
-// or which of the joins.
+// which of the joins, or which of the examples of old numbers.
 pub enum Row {
     Start,
     P(u32),
@@ -18,6 +18,9 @@ pub enum Row {
     Rooms,
     Befores,
     Overlap,
+    Asked,
+    Old,
+    Sleep,
 }
 
 pub fn text(words: &[u8]) {
@@ -74,6 +77,9 @@ pub fn label(of: Row) {
         Row::Rooms => text(b"rooms"),
         Row::Befores => text(b"befores"),
         Row::Overlap => text(b"overlap"),
+        Row::Asked => text(b"asked"),
+        Row::Old => text(b"old"),
+        Row::Sleep => text(b"sleep"),
     }
 }
 
