@@ -3,26 +3,21 @@
 //!
 //! Completed writes have landed; of the writes still out any may have landed. However that is, the
 //! store must be the opening with the landed changes carried out singly in the order they were
-//! accepted, and whatever a landed change named must have landed too.
+//! accepted, and whatever a landed change named must have landed too. Where other histories came before
+//! on the same store, the opening is the first one, with the changes that landed since (life.rs).
+//!
+//! A name below the first number asks for nothing in this history: it is not looked up among its changes.
 //!
 //! A number may stand for several changes, which land together: it is given again only while its patch waits. A change that names
 //! it asks for those accepted earlier, and for no later one.
 
 use crate::judge::cover::Cover;
+use crate::judge::life::{Accepted, Past, carry};
 use crate::model::bytes::set_of;
 use crate::model::setting::Setting;
 use crate::model::table::{BLOCK_BYTES, SLOTS};
 use crate::orders::steps::{Answer, Call, Lent};
 use std::collections::{BTreeMap, BTreeSet};
-
-/// An accepted change; its place among all of them is the order.
-struct Accepted {
-    number: u32,
-    block: u32,
-    offset: u32,
-    data: Vec<u8>,
-    named: Vec<u32>,
-}
 
 /// A granted write that is out, and the numbers it sent.
 struct Out {
@@ -32,8 +27,11 @@ struct Out {
 
 pub struct History {
     setting: Setting,
+    first: u32,
+    past: Past,
+    /// The first opening with the changes that landed in the histories before.
     opening: Vec<u8>,
-    /// The opening with the blocks of all completed writes.
+    /// The image at the opening, with the blocks of all completed writes.
     store: Vec<u8>,
     accepted: Vec<Accepted>,
     out: BTreeMap<u32, Out>,
@@ -44,10 +42,12 @@ pub struct History {
 }
 
 impl History {
-    pub fn opened(setting: Setting, image: &[u8]) -> History {
+    pub fn opened(setting: Setting, first: u32, past: Past, image: &[u8]) -> History {
         History {
             setting,
-            opening: image.to_vec(),
+            first,
+            opening: past.store(),
+            past,
             store: image.to_vec(),
             accepted: Vec::new(),
             out: BTreeMap::new(),
@@ -68,7 +68,8 @@ impl History {
             Call::Open { .. } => Err(String::from("an opening begins a history, and is none of its calls")),
             Call::Create { block, offset, data, named } => {
                 let (number, data, named) = (answer.number, data.clone(), named.clone());
-                self.accept(Accepted { number, block: *block, offset: *offset, data, named }, answer.hold)
+                let change = Accepted { number, block: *block, offset: *offset, data, named };
+                self.accept(change, answer.hold, cover)
             }
             Call::Write { block } => self.send(*block, answer.set, handed, cover),
             Call::Complete { block } => self.complete(*block, cover),
@@ -78,20 +79,42 @@ impl History {
     }
 
     /// A change of a new number takes the lowest free slot; one of a number given before goes with that number's changes.
-    fn accept(&mut self, change: Accepted, hold: u32) -> Result<(), String> {
-        if let Some(unknown) = change.named.iter().find(|&&number| self.changes_of(number).next().is_none()) {
-            return Err(format!("a change was accepted that names {unknown}, which was never given"));
+    fn accept(&mut self, mut change: Accepted, hold: u32, cover: &mut Cover) -> Result<(), String> {
+        change.named = self.asked_for(&change.named, cover)?;
+        if change.number < self.first {
+            return Err(format!("number {} was given, which is below first", change.number));
         }
-        if self.changes_of(change.number).next().is_some() {
+        if self.was_given(change.number) {
             self.may_share(&change, hold)?;
         } else {
             let Some(free) = self.slots.iter_mut().find(|slot| slot.is_none()) else {
                 return Err(String::from("a change was accepted with all slots in use"));
             };
             *free = Some(change.number);
+            self.past.see_given(change.number, cover);
         }
         self.accepted.push(change);
         Ok(())
+    }
+
+    /// Those of the named numbers that this history gave. Any other must be from before its opening.
+    fn asked_for(&self, named: &[u32], cover: &mut Cover) -> Result<Vec<u32>, String> {
+        let (old, named): (Vec<u32>, Vec<u32>) = named.iter().partition(|&&number| self.is_old(number));
+        if let Some(unknown) = named.iter().find(|&&number| !self.was_given(number)) {
+            return Err(format!("a change was accepted that names {unknown}, which was never given"));
+        }
+        old.iter().for_each(|&number| self.past.see_old_name(number, cover));
+        named.iter().for_each(|&number| self.past.see_name(number, cover));
+        Ok(named)
+    }
+
+    /// From before the opening: committed, whatever was given then.
+    fn is_old(&self, number: u32) -> bool {
+        1 <= number && number < self.first
+    }
+
+    fn was_given(&self, number: u32) -> bool {
+        self.changes_of(number).next().is_some()
     }
 
     /// Is this a number that may be given again, by what was noted?
@@ -137,7 +160,7 @@ impl History {
             if self.sent(number) {
                 return Err(format!("number {number} was sent twice"));
             }
-            if self.changes_of(number).next().is_none() {
+            if !self.was_given(number) {
                 return Err(format!("number {number} was sent, and is no accepted change's"));
             }
             if self.changes_of(number).any(|change| change.block != block) {
@@ -171,6 +194,10 @@ impl History {
 
     fn asked(&self, number: u32, state: u32, cover: &mut Cover) -> Result<(), String> {
         let noted = match (self.sent(number), self.landed.contains(&number)) {
+            _ if self.is_old(number) => 3,
+            _ if !self.was_given(number) => {
+                return Err(format!("ask says {state} of {number}, which was never given"));
+            }
             (false, _) => 1,
             (true, false) => 2,
             (true, true) => 3,
@@ -178,6 +205,10 @@ impl History {
         cover.add("cut: ask as noted", noted);
         if state != noted {
             return Err(format!("ask says {state} of {number}, the notes {noted}"));
+        }
+        if self.is_old(number) {
+            self.past.see_old_asked(number, cover);
+            return Ok(());
         }
         if noted == 3 { self.all_on_the_store(number, cover) } else { Ok(()) }
     }
@@ -223,6 +254,23 @@ impl History {
         self.out.keys().copied().collect()
     }
 
+    /// Nothing waits and nothing is out: the store is the working image, and a sleep loses nothing.
+    pub fn at_rest(&self) -> bool {
+        self.slots.iter().all(|slot| slot.is_none())
+    }
+
+    /// The power goes, with the writes of these blocks landed of those that are out. What the next history has behind it.
+    pub fn ended(mut self, landed: &[u32], cover: &mut Cover) -> Result<Past, String> {
+        let landed: Vec<u32> = self.blocks_out().into_iter().filter(|block| landed.contains(block)).collect();
+        self.cut_with(&landed, cover)?;
+        for block in landed {
+            self.complete(block, cover)?;
+        }
+        self.past.add(self.first, self.accepted, &self.landed);
+        self.past.rest_is_untouched(&self.store)?;
+        Ok(self.past)
+    }
+
     /// Cuts with none of the writes out landed, with each of them alone, and with all.
     ///
     /// That is every cut there is: each change sent is of its write's block, so a block's bytes depend on its own write alone, and
@@ -254,7 +302,7 @@ impl History {
         self.accepted
             .iter()
             .filter(|change| landed(change))
-            .for_each(|change| carry_out(&mut expected, change));
+            .for_each(|change| change.carry_out(&mut expected));
         same_bytes(&self.store_after(blocks), &expected, 0, blocks)
     }
 
@@ -296,7 +344,7 @@ impl History {
 
     /// When every accepted change has committed, the store is the working image.
     pub fn settled(&self, lent: &Lent, cover: &mut Cover) -> Result<(), String> {
-        if self.slots.iter().all(|slot| slot.is_none()) && !self.accepted.is_empty() {
+        if self.at_rest() && !self.accepted.is_empty() {
             cover.add("cut: all committed, store equals working image", 0);
             if self.store != lent.image {
                 return Err(String::from("all changes committed, but the store is not the working image"));
@@ -324,16 +372,6 @@ fn land(store: &mut [u8], block: u32, handed: &[u8]) {
     carry(store, BLOCK_BYTES * block as usize, handed);
 }
 
-fn carry_out(store: &mut [u8], change: &Accepted) {
-    carry(store, BLOCK_BYTES * change.block as usize + change.offset as usize, &change.data);
-}
-
-fn carry(store: &mut [u8], from: usize, bytes: &[u8]) {
-    for (place, byte) in store.iter_mut().skip(from).zip(bytes) {
-        *place = *byte;
-    }
-}
-
 #[cfg(test)]
 mod tests {
     use super::*;
@@ -341,7 +379,8 @@ mod tests {
 
     /// A history of an all zero image in which 1 waits on block 1, and 2 on block 2.
     fn two_wait(setting: Setting) -> History {
-        let mut history = History::opened(setting, &[0; 64 * BLOCK_BYTES]);
+        let image = [0; 64 * BLOCK_BYTES];
+        let mut history = History::opened(setting, 1, Past::none(&image), &image);
         for number in [1, 2] {
             assert_eq!(given(&mut history, number, number, 1), Ok(()));
         }
