@@ -375,12 +375,17 @@ fn land(store: &mut [u8], block: u32, handed: &[u8]) {
 #[cfg(test)]
 mod tests {
     use super::*;
-    use crate::orders::steps::{create, write};
+    use crate::orders::steps::{ask, create, write};
+
+    const IMAGE: [u8; 64 * BLOCK_BYTES] = [0; 64 * BLOCK_BYTES];
+
+    fn cover() -> Cover {
+        Cover::default()
+    }
 
     /// A history of an all zero image in which 1 waits on block 1, and 2 on block 2.
     fn two_wait(setting: Setting) -> History {
-        let image = [0; 64 * BLOCK_BYTES];
-        let mut history = History::opened(setting, 1, Past::none(&image), &image);
+        let mut history = History::opened(setting, 1, Past::none(&IMAGE), &IMAGE);
         for number in [1, 2] {
             assert_eq!(given(&mut history, number, number, 1), Ok(()));
         }
@@ -391,12 +396,34 @@ mod tests {
     fn given(history: &mut History, block: u32, number: u32, hold: u32) -> Result<(), String> {
         let answer = Answer { number, hold, ..Answer::default() };
         let offset = history.accepted.len() as u32;
-        history.record(&create(block, offset, &[7], &[]).call, &answer, &[], &mut Cover::default())
+        history.record(&create(block, offset, &[7], &[]).call, &answer, &[], &mut cover())
+    }
+
+    /// A hard change of block 3 that names numbers.
+    fn naming(history: &mut History, number: u32, named: &[u32]) -> Result<(), String> {
+        let answer = Answer { number, hold: 1, ..Answer::default() };
+        history.record(&create(3, 9, &[7], named).call, &answer, &[], &mut cover())
     }
 
     fn sent(history: &mut History, block: u32, set: u64, handed: &[u8]) -> Result<(), String> {
         let answer = Answer { set, ..Answer::default() };
-        history.record(&write(block).call, &answer, handed, &mut Cover::default())
+        history.record(&write(block).call, &answer, handed, &mut cover())
+    }
+
+    fn says(history: &mut History, number: u32, state: u32) -> Result<(), String> {
+        let answer = Answer { state, ..Answer::default() };
+        history.record(&ask(number).call, &answer, &[], &mut cover())
+    }
+
+    /// The history above after a cut in which 1 landed and 2 was lost, opened again on that store.
+    fn opened_again(first: u32) -> History {
+        let mut before = two_wait(Setting::Board);
+        let mut handed = [0; BLOCK_BYTES];
+        handed[0] = 7;
+        assert_eq!(sent(&mut before, 1, 1, &handed), Ok(()));
+        let image = before.store_after(&[1]);
+        let past = before.ended(&[1], &mut cover()).expect("a cut that the store survives");
+        History::opened(Setting::Board, first, past, &image)
     }
 
     #[test]
@@ -422,7 +449,60 @@ mod tests {
             let mut history = two_wait(Setting::Board);
             assert_eq!(given(&mut history, 1, 1, 1), Ok(()));
             assert_eq!(sent(&mut history, 1, 1, &handed), Ok(()));
-            assert_eq!(history.cut(&mut Cover::default()).is_ok(), whole);
+            assert_eq!(history.cut(&mut cover()).is_ok(), whole);
         }
+    }
+
+    #[test]
+    fn a_name_below_first_asks_for_nothing() {
+        for (named, may) in [(1, true), (2, true), (0, false), (3, false), (4, false)] {
+            assert_eq!(naming(&mut opened_again(3), 3, &[named]).is_ok(), may, "{named} named");
+            assert_eq!(says(&mut opened_again(3), named, 3).is_ok(), may, "{named} asked for");
+        }
+        assert!(says(&mut opened_again(3), 2, 1).is_err(), "below first, and waiting");
+        assert!(naming(&mut opened_again(3), 2, &[]).is_err(), "a number below first given");
+    }
+
+    #[test]
+    fn a_number_of_two_histories_is_the_later_ones() {
+        for (first, may) in [(3, true), (2, false)] {
+            let mut history = opened_again(first);
+            let mut slots = 0;
+            if first == 2 {
+                assert_eq!(given(&mut history, 2, 2, 1), Ok(()));
+                slots = 1;
+            }
+            assert_eq!(naming(&mut history, 3, &[1, 2]), Ok(()));
+            let mut handed = [0; BLOCK_BYTES];
+            handed[9] = 7;
+            assert_eq!(sent(&mut history, 3, 1 << slots, &handed), Ok(()));
+            assert_eq!(history.cut(&mut cover()).is_ok(), may, "2 waits where first is 2");
+        }
+    }
+
+    #[test]
+    fn a_life_is_held_to_its_first_opening() {
+        for (earlier, kept) in [(7, true), (0, false), (8, false)] {
+            let mut history = opened_again(3);
+            assert_eq!(history.cut(&mut cover()), Ok(()));
+            let answer = Answer { number: 3, hold: 1, ..Answer::default() };
+            let change = create(1, 5, &[9], &[]).call;
+            assert_eq!(history.record(&change, &answer, &[], &mut cover()), Ok(()));
+            let mut handed = [0; BLOCK_BYTES];
+            (handed[0], handed[5]) = (earlier, 9);
+            assert_eq!(sent(&mut history, 1, 1, &handed), Ok(()));
+            assert_eq!(history.cut(&mut cover()).is_ok(), kept, "{earlier} where 7 landed before");
+            assert_eq!(history.ended(&[1], &mut cover()).is_ok(), kept);
+        }
+    }
+
+    #[test]
+    fn an_image_that_is_not_the_stores_shows() {
+        let past = || opened_again(3).past;
+        let mut image = past().store();
+        assert_eq!(past().rest_is_untouched(&image), Ok(()));
+        image[BLOCK_BYTES * 5] = 1;
+        assert!(past().rest_is_untouched(&image).is_err());
+        assert!(History::opened(Setting::Board, 3, past(), &image).cut(&mut cover()).is_err());
     }
 }
