@@ -468,7 +468,7 @@ fn entries() -> Vec<Entry> {
         entry("the end of the block off by one", EndOffByOne, false),
         entry("taken back in order of slots", SlotOrder, true),
         entry("nothing taken back", TakesNothingBack, true),
-        entry("the coming number passes for issued", NextIsIssued, false),
+        entry("the coming number passes for issued", NextIsIssued, true),
         entry("hard ones go alone where they may", SmallestSet, false),
         entry("touching ranges overlap", TouchingOverlaps, false),
         entry("overlap with one in flight is no before", OverlapOnlyWaiting, false),

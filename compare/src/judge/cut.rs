@@ -193,16 +193,7 @@ impl History {
     }
 
     fn asked(&self, number: u32, state: u32, cover: &mut Cover) -> Result<(), String> {
-        let noted = match (self.sent(number), self.landed.contains(&number)) {
-            _ if self.is_old(number) => 3,
-            _ if !self.was_given(number) => {
-                return Err(format!("ask says {state} of {number}, which was never given"));
-            }
-            (false, _) => 1,
-            (true, false) => 2,
-            (true, true) => 3,
-        };
-        cover.add("cut: ask as noted", noted);
+        let noted = self.noted(number)?;
         if state != noted {
             return Err(format!("ask says {state} of {number}, the notes {noted}"));
         }
@@ -210,7 +201,23 @@ impl History {
             self.past.see_old_asked(number, cover);
             return Ok(());
         }
+        cover.add("cut: ask as noted", noted);
         if noted == 3 { self.all_on_the_store(number, cover) } else { Ok(()) }
+    }
+
+    /// How a number stands by the notes. Those from before the opening are not looked up in them.
+    fn noted(&self, number: u32) -> Result<u32, String> {
+        if self.is_old(number) {
+            return Ok(3);
+        }
+        if !self.was_given(number) {
+            return Err(format!("ask was granted of {number}, which was never given"));
+        }
+        Ok(match (self.sent(number), self.landed.contains(&number)) {
+            (false, _) => 1,
+            (true, false) => 2,
+            (true, true) => 3,
+        })
     }
 
     /// What is called committed is on the store with all its changes: its block there is the opening's with all that committed.

@@ -2,8 +2,8 @@
 //! held to its first opening: the store must be that one with the landed changes of all its histories carried out singly in the order
 //! they were accepted, and a byte that none of these names must have its first value.
 //!
-//! A later history may give numbers that an earlier one gave. Nothing is looked up here by its number: what is kept of the numbers
-//! says only what was reached.
+//! A later history may give numbers that an earlier one gave, so no change is looked up here by its number. The numbers are kept to
+//! say what was reached.
 
 use crate::judge::cover::Cover;
 use crate::model::table::BLOCK_BYTES;
@@ -138,13 +138,14 @@ impl Past {
         self.numbers_landed.contains(&number) || self.numbers_lost.contains(&number)
     }
 
-    /// A number was given in this history, or, given in it, named.
+    /// This history gave a number.
     pub fn see_given(&self, number: u32, cover: &mut Cover) {
         if self.gave(number) {
             cover.add("life: a number given that an earlier history gave", 0);
         }
     }
 
+    /// A number that this history gave was named.
     pub fn see_name(&self, number: u32, cover: &mut Cover) {
         if self.gave(number) {
             cover.add("life: names a number that an earlier history gave too", 0);

@@ -156,9 +156,9 @@ fn in_a_free_slot(table: &Table, number: u32) -> bool {
 }
 
 fn see_asked(cover: &mut Cover, table: &Table, number: u32, state: u32) {
-    cover.add("ask: state", state);
     let far = table.next - number > 65_536;
     if number >= table.first {
+        cover.add("ask: state", state);
         when(cover, far && state == 3, "ask: committed more than 65,536 numbers ago");
         return;
     }

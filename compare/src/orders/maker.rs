@@ -91,7 +91,7 @@ fn none_in_flight(table: &Table) -> bool {
 pub struct Maker {
     pub random: Random,
     pub taste: Taste,
-    /// Numbers that the caller still holds from elsewhere: from earlier openings of the same store.
+    /// Numbers that the caller has from elsewhere: from earlier openings of the store, or from free slots.
     pub held: Vec<u32>,
 }
 
