@@ -151,9 +151,10 @@ static unsigned slot_of(const struct table *t, uint32_t number)
     return SLOTS;
 }
 
+/* Those below first were issued before this opening: they are in no slot, so they have committed. */
 static int issued(const struct table *t, uint32_t number)
 {
-    return t->first <= number && number < t->next;
+    return number != 0 && number < t->next;
 }
 
 uint32_t board_open(uint8_t *table, size_t table_len, uint32_t first)

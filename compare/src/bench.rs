@@ -21,7 +21,7 @@ const PASSES: usize = 5;
 fn recorded(seed: u64) -> Order {
     let mut random = Random::new(seed);
     let taste = Taste { faults: 0, ..Taste::of_seed(&mut random) };
-    let mut maker = Maker { random, taste };
+    let mut maker = Maker::new(random, taste);
     let mut order = Order { fill: seed, cuts: false, ..Order::of(&[open(1)]) };
     let model = Mock(Right);
     let mut run = Run::start(Pair { library: &model, model: None }, &order);

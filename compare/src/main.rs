@@ -114,7 +114,10 @@ fn settings(calls: u64) -> bool {
 fn all_cases(pair: Pair, seed: u64, calls: u64, enough: u64) -> bool {
     let mut driver = Driver::new(pair);
     for (run, what) in [
-        (fixed::run(pair, &mut driver.cover), "fixed cases: rows as document 01 and request a have them"),
+        (
+            fixed::run(pair, &mut driver.cover),
+            "fixed cases: rows as document 01 and requests a and b have them",
+        ),
         (paper::run(pair, &mut driver.cover), "the source paper's figures 3 and 2b, with its numbers"),
         (
             sweep::run(pair, &mut driver.cover),

@@ -1,5 +1,5 @@
-//! The rows and edges of document 01 with their exact numbers, as request a has them, and that request's own examples. Each row is
-//! run on the library, checked against what the documents say, and compared with the model like any other call.
+//! The rows and edges of document 01 with their exact numbers, as requests a and b have them, and these requests' own examples. Each
+//! row is run on the library, checked against what the documents say, and compared with the model like any other call.
 
 use crate::judge::cover::Cover;
 use crate::judge::run::{Failure, Order, Pair, Run};
@@ -460,6 +460,186 @@ fn all_issued() -> Table {
     table
 }
 
+/// Opened at 7, the numbers 1 to 6 have committed, and nothing else has.
+fn opened_at_7() -> Vec<Row> {
+    vec![
+        ("open", open(7), granted()),
+        ("3 has committed", ask(3), state(3)),
+        ("6 has", ask(6), state(3)),
+        ("1 has", ask(1), state(3)),
+        ("0 was never issued", ask(0), refused(7)),
+        ("7 is not issued yet", ask(7), refused(7)),
+        ("8 is not", ask(8), refused(7)),
+        ("0 named", create(1, 0, &[65], &[0]), refused(7)),
+        ("0 named after 3", create(1, 0, &[65], &[3, 0]), refused(7)),
+        ("7 named before it is issued", create(1, 0, &[65], &[7]), refused(7)),
+        ("7 named between two that have committed", create(1, 0, &[65], &[6, 7, 1]), refused(7)),
+        ("nine that have committed", create(1, 0, &[65], &[3; 9]), refused(6)),
+        (
+            "3 named: 7 follows nothing",
+            create(1, 0, &[65; 8], &[3]),
+            hard(7).leaving(0, State::WaitingHard).following(0, &[]),
+        ),
+        ("7 waits", ask(7), state(1)),
+        ("3 has committed still", ask(3), state(3)),
+        ("6 too", ask(6), state(3)),
+        ("8 is the coming one", ask(8), refused(7)),
+        ("and 0 is none", ask(0), refused(7)),
+        ("8 named", create(1, 8, &[66], &[3, 8]), refused(7)),
+        ("7 goes at once", write(1), sends(&[0], &[(8, 65)])),
+        ("6 beside it in flight", ask(6), state(3)),
+        ("7 has landed", complete(1), granted()),
+        ("7 has committed", ask(7), state(3)),
+        ("7 and 6 named, both committed", create(2, 0, &[67], &[7, 6]), hard(8).following(0, &[])),
+    ]
+}
+
+/// Opened at 1, no number is below first.
+fn opened_at_1() -> Vec<Row> {
+    vec![
+        ("open", open(1), granted()),
+        ("0 was never issued", ask(0), refused(7)),
+        ("nor was 1", ask(1), refused(7)),
+        ("0 named", create(0, 0, &[7], &[0]), refused(7)),
+        ("1 named", create(0, 0, &[7], &[1]), refused(7)),
+        ("the first change is 1", create(0, 0, &[7], &[]), hard(1)),
+        ("0 is none still", ask(0), refused(7)),
+        ("1 waits", ask(1), state(1)),
+    ]
+}
+
+/// Old names beside others, in every order: those that wait or are in flight are followed, and those alone. 7 in slot 0 is nobody's
+/// before for an old name.
+fn old_names_beside_others() -> Vec<Row> {
+    let block_2: [(usize, u8); 4] = [(1, 20), (1, 21), (1, 22), (1, 23)];
+    vec![
+        ("open", open(7), granted()),
+        ("7 on block 1, in slot 0", create(1, 0, &[10; 4], &[]), hard(7)),
+        ("only old ones named", create(2, 0, &[20], &[3]), hard(8).following(1, &[])),
+        ("an old one first", create(3, 0, &[30], &[3, 7]), hard(9).following(2, &[0])),
+        ("an old one last", create(4, 0, &[40], &[7, 6]), hard(10).following(3, &[0])),
+        ("eight old ones", create(5, 0, &[50], &[1, 2, 3, 4, 5, 6, 6, 1]), hard(11).following(4, &[])),
+        ("soft on block 1, an old one named", create(1, 8, &[11], &[2]), soft(12, 0).following(5, &[0])),
+        ("joins 8, an old one named", create(2, 1, &[21], &[5]), hard(8).following(1, &[])),
+        ("7 and 12 go", write(1), sends(&[0, 5], &[(4, 10), (4, 0), (1, 11)])),
+        ("an old one and one in flight", create(6, 0, &[60], &[1, 7]), hard(13).following(6, &[0])),
+        ("joins 8, old ones and 11 named", create(2, 2, &[22], &[6, 11, 1]), hard(8).following(1, &[4])),
+        ("7 and 12 have landed", complete(1), granted().following(2, &[])),
+        ("an old one and one committed since", create(1, 0, &[12], &[7, 4]), hard(14).following(0, &[])),
+        ("joins 8, both again and 14", create(2, 3, &[23], &[4, 7, 14]), hard(8).following(1, &[0, 4])),
+        ("11 goes", write(5), sends(&[4], &[(1, 50)])),
+        ("11 has landed", complete(5), granted()),
+        ("13: 8 follows 14", write(2), refused(13)),
+        ("14 goes", write(1), sends(&[0], &[(1, 12), (3, 10), (4, 0), (1, 11)])),
+        ("14 has landed", complete(1), granted().following(1, &[])),
+        ("8 goes with what joined", write(2), sends(&[1], &block_2)),
+    ]
+}
+
+/// Opened at the last number there is, all others have committed; what joins or is refused 8 may name them.
+fn opened_at_the_last() -> Vec<Row> {
+    vec![
+        ("open", open(1_000_000_000), granted()),
+        ("the one before it", ask(999_999_999), state(3)),
+        ("the first of all", ask(1), state(3)),
+        ("itself", ask(1_000_000_000), refused(7)),
+        ("it follows nothing", create(0, 0, &[7], &[999_999_999, 1]), hard(1_000_000_000).following(0, &[])),
+        ("it waits", ask(1_000_000_000), state(1)),
+        ("no number comes after it", ask(1_000_000_001), refused(7)),
+        ("8, with an old one named", create(1, 0, &[7], &[999_999_999]), refused(8)),
+        ("7 comes before 8", create(1, 0, &[7], &[999_999_999, 0]), refused(7)),
+        (
+            "it is joined, with an old one named",
+            create(0, 1, &[8], &[999_999_999]),
+            hard(1_000_000_000).following(0, &[]),
+        ),
+    ]
+}
+
+/// Numbers with the same low digits as one in use: 65,543 is 7 in sixteen binary digits, and in eight.
+fn old_digits_alike() -> Vec<Row> {
+    vec![
+        ("open", open(65_543), granted()),
+        ("one on block 1", create(1, 0, &[1], &[]), hard(65_543)),
+        ("7 has committed", ask(7), state(3)),
+        ("64 is not slot 0", ask(64), state(3)),
+        ("7 named", create(2, 0, &[2], &[7]), hard(65_544).following(1, &[])),
+        ("64 and 65 named", create(3, 0, &[3], &[64, 65]), hard(65_545).following(2, &[])),
+        ("the one before first", ask(65_542), state(3)),
+    ]
+}
+
+/// The radio sleeps with all committed, opens at its next number, and its menus name the old one.
+fn after_a_sleep() -> Vec<Row> {
+    vec![
+        ("open", open(1), granted()),
+        ("1 on block 1", create(1, 0, &[10; 4], &[]), hard(1)),
+        ("1 goes", write(1), sends(&[0], &[(4, 10)])),
+        ("1 has landed", complete(1), granted()),
+        ("1 has committed", ask(1), state(3)),
+        ("the sleep", open(2), granted()),
+        ("1 has committed", ask(1), state(3)),
+        ("2 is not issued yet", ask(2), refused(7)),
+        ("1 named", create(2, 0, &[20; 4], &[1]), hard(2).following(0, &[])),
+        ("1 and 2 named", create(1, 2, &[30; 4], &[1, 2]), hard(3).following(1, &[0])),
+        ("2 goes at once", write(2), sends(&[0], &[(4, 20)])),
+        ("3 follows 2", write(1), refused(13)),
+        ("2 has landed", complete(2), granted()),
+        ("3 goes, over what 1 left", write(1), sends(&[1], &[(2, 10), (4, 30)])),
+    ]
+}
+
+/// The supply is cut, and again. 2 is lost; it is taken for committed all the same where first is above it, and given again where
+/// first is not.
+fn after_cuts() -> Vec<Row> {
+    vec![
+        ("open", open(1), granted()),
+        ("1 on block 1", create(1, 0, &[10; 4], &[]), hard(1)),
+        ("2 on block 2 after 1", create(2, 0, &[20; 4], &[1]), hard(2)),
+        ("1 goes", write(1), sends(&[0], &[(4, 10)])),
+        ("a cut, block 1 landed", open(3).after_cut(&[1]), granted()),
+        ("1 has committed", ask(1), state(3)),
+        ("2 was lost, and is below first", ask(2), state(3)),
+        ("both named", create(2, 2, &[30; 4], &[2, 1]), hard(3).following(0, &[])),
+        ("3 goes at once, without 2", write(2), sends(&[0], &[(2, 0), (4, 30)])),
+        ("a cut, block 2 did not land", open(3).after_cut(&[]), granted()),
+        ("3 is not issued yet", ask(3), refused(7)),
+        ("3 named", create(3, 0, &[40], &[3]), refused(7)),
+        ("3 again, on block 3", create(3, 0, &[40], &[2]), hard(3).following(0, &[])),
+        ("3 goes", write(3), sends(&[0], &[(1, 40)])),
+        ("a cut, block 3 landed; a lower first", open(2).after_cut(&[3]), granted()),
+        ("3 is not issued now", ask(3), refused(7)),
+        ("2 again, on block 1", create(1, 4, &[50; 2], &[1]), hard(2).following(0, &[])),
+        ("2 waits", ask(2), state(1)),
+        ("3 again, after 2 and 1", create(2, 0, &[60], &[1, 2]), hard(3).following(1, &[0])),
+        ("3 follows this 2", write(2), refused(13)),
+        ("2 goes, over what 1 left", write(1), sends(&[0], &[(4, 10), (2, 50)])),
+        ("a cut, block 1 landed; far above", open(500).after_cut(&[1]), granted()),
+        ("3 has committed", ask(3), state(3)),
+        ("so has 499", ask(499), state(3)),
+        ("the first change of block 2 that lands", create(2, 8, &[70], &[3, 499]), hard(500)),
+        ("it goes at once", write(2), sends(&[0], &[(8, 0), (1, 70)])),
+    ]
+}
+
+/// Slot 0 waits, slot 1 is free and has a number below first among its remains: no order of calls leaves it.
+fn old_remains() -> Table {
+    let mut table = Table { next: 9, ..Table::empty(Setting::Board, 7) };
+    let slot =
+        Slot { state: State::WaitingHard, number: 7, block: 1, offset: 0, length: 4, befores: Slots::new() };
+    table.slots[1] = Slot { state: State::Free, number: 3, block: 2, ..slot.clone() };
+    table.slots[0] = slot;
+    table
+}
+
+fn old_in_a_free_slot() -> Vec<Row> {
+    vec![
+        ("3 has committed", ask(3), state(3)),
+        ("3 named", create(3, 0, &[1], &[3]), hard(9).following(1, &[])),
+        ("8 has committed since", create(4, 0, &[1], &[8, 2]), hard(10).following(2, &[])),
+    ]
+}
+
 fn all() -> Vec<Case> {
     let case = |name, rows| Case { name, table: None, rows };
     let on = |name, table, rows| Case { name, table: Some(table), rows };
@@ -486,6 +666,14 @@ fn all() -> Vec<Case> {
         case("numbers past sixteen digits", past_sixteen_digits()),
         on("a hard one at the end of a chain", late_hard_one(), held),
         on("all numbers issued", all_issued(), far_numbers()),
+        case("opened at 7", opened_at_7()),
+        case("opened at 1", opened_at_1()),
+        case("old names beside others", old_names_beside_others()),
+        case("opened at 1,000,000,000", opened_at_the_last()),
+        case("old numbers alike in their low digits", old_digits_alike()),
+        case("after a sleep", after_a_sleep()),
+        case("after cuts", after_cuts()),
+        on("an old number in a free slot", old_remains(), old_in_a_free_slot()),
     ]
 }
 

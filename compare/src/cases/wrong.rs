@@ -37,8 +37,10 @@ wrong!(LowestFirst: fn order_of_taking_back(&self, t: &Table, left: &Slots) -> V
 wrong!(SlotOrder: fn order_of_taking_back(&self, _: &Table, left: &Slots) -> Vec<usize> { left.iter().copied().rev().collect() });
 wrong!(TakesNothingBack: fn take_back(&self, _: &Slot, _: &[u8], _: &mut [u8]) {});
 wrong!(HardLeftBehind: fn has_all_hard(&self, _: &Table, _: u32, _: &Slots) -> bool { true });
-wrong!(NoSlotIsUnknown: fn never_issued(&self, t: &Table, number: u32) -> bool { t.slot_of(number).is_none() });
-wrong!(NextIsIssued: fn never_issued(&self, t: &Table, number: u32) -> bool { number < t.first || number > t.next });
+wrong!(NoSlotIsUnknown: fn never_issued(&self, t: &Table, number: u32) -> bool {
+    Right.never_issued(t, number) || (number >= t.first && t.slot_of(number).is_none())
+});
+wrong!(NextIsIssued: fn never_issued(&self, t: &Table, number: u32) -> bool { number == 0 || number > t.next });
 wrong!(OnePass: fn largest_that_may_go(&self, t: &Table, block: u32) -> Slots {
     let waiting = t.waiting(block);
     let kept: Slots = waiting.iter().copied().filter(|&i| t.slots[i].befores.is_subset(&waiting)).collect();
@@ -141,7 +143,7 @@ wrong!(RemainsJudged: fn sound(&self, t: &Table) -> bool {
 wrong!(FirstBelowLast: fn sound(&self, t: &Table) -> bool { Right.sound(t) && t.first < LAST_NUMBER });
 wrong!(NextAtMostLast: fn sound(&self, t: &Table) -> bool { Right.sound(t) && t.next <= LAST_NUMBER });
 wrong!(CommittedLongAgoUnknown: fn never_issued(&self, t: &Table, number: u32) -> bool {
-    Right.never_issued(t, number) || (t.slot_of(number).is_none() && t.next - number > 65_536)
+    Right.never_issued(t, number) || (number >= t.first && t.slot_of(number).is_none() && t.next - number > 65_536)
 });
 wrong!(NamesInEightBits: fn too_many_names(&self, names: usize) -> bool { names % 256 > MOST_NAMED });
 wrong!(LengthInEightBits: fn holds(&self, refusal: Refusal, t: &Table, asked: &Asked) -> bool {
@@ -287,6 +289,125 @@ impl Model for SpareOfSoft {
     }
 }
 
+// ---- Numbers from before the opening ----
+
+/// From before the opening, by the rule: 0 is none of them.
+fn old(table: &Table, number: u32) -> bool {
+    1 <= number && number < table.first
+}
+
+wrong!(ZeroHasCommitted: fn never_issued(&self, t: &Table, number: u32) -> bool { number >= t.next });
+wrong!(FirstHasCommitted: fn never_issued(&self, t: &Table, number: u32) -> bool { Right.never_issued(t, number) && number != t.first });
+wrong!(NothingOldIssued: fn never_issued(&self, t: &Table, number: u32) -> bool { Right.never_issued(t, number) || number < t.first });
+wrong!(LastOldUnknown: fn never_issued(&self, t: &Table, number: u32) -> bool { Right.never_issued(t, number) || number + 1 == t.first });
+wrong!(OneUnknown: fn never_issued(&self, t: &Table, number: u32) -> bool { Right.never_issued(t, number) || (number == 1 && t.first > 1) });
+wrong!(FarOldUnknown: fn never_issued(&self, t: &Table, number: u32) -> bool {
+    Right.never_issued(t, number) || (number < t.first && t.next - number > 65_536)
+});
+wrong!(OldUnknownJustOpened: fn never_issued(&self, t: &Table, number: u32) -> bool { Right.never_issued(t, number) || t.first == t.next });
+wrong!(OldUnknownLater: fn never_issued(&self, t: &Table, number: u32) -> bool {
+    Right.never_issued(t, number) || (number < t.first && t.first < t.next)
+});
+
+/// A call refuses old numbers as before.
+struct RefusesOldIn(Kind);
+
+impl Model for RefusesOldIn {
+    fn judge(&self, kind: Kind, table: &Table, asked: &Asked) -> Result<(), Refusal> {
+        if kind == self.0 {
+            NothingOldIssued.judge(kind, table, asked)
+        } else {
+            Right.judge(kind, table, asked)
+        }
+    }
+}
+
+wrong!(JoinRefusesOld: fn holds(&self, refusal: Refusal, t: &Table, asked: &Asked) -> bool {
+    let joins = refusal == Refusal::NeverIssued && asked.length > 0 && self.joined(t, asked.block).is_some();
+    Right.holds(refusal, t, asked) || (joins && asked.numbers.iter().any(|&number| old(t, number)))
+});
+wrong!(OldNamesNotCounted: fn holds(&self, refusal: Refusal, t: &Table, asked: &Asked) -> bool {
+    let counted = asked.numbers.iter().filter(|&&number| !old(t, number)).count();
+    if refusal == Refusal::ManyNames { counted > MOST_NAMED } else { Right.holds(refusal, t, asked) }
+});
+wrong!(OldEndsTheNames: fn named(&self, t: &Table, c: &Change) -> Slots {
+    c.named.iter().take_while(|&&number| !old(t, number)).filter_map(|&number| t.slot_of(number)).collect()
+});
+wrong!(OldDropsAllNames: fn named(&self, t: &Table, c: &Change) -> Slots {
+    if c.named.iter().any(|&number| old(t, number)) { Slots::new() } else { Right.named(t, c) }
+});
+wrong!(OldDropsTheOneBefore: fn named(&self, t: &Table, c: &Change) -> Slots {
+    let dropped = |i: usize| c.named.get(i + 1).is_some_and(|&next| old(t, next));
+    (0..c.named.len()).filter(|&i| !dropped(i)).filter_map(|i| t.slot_of(c.named[i])).collect()
+});
+wrong!(OldEndsTheTest: fn holds(&self, refusal: Refusal, t: &Table, asked: &Asked) -> bool {
+    let mut judged = asked.numbers.iter().take_while(|&&number| !old(t, number));
+    if refusal == Refusal::NeverIssued { judged.any(|&n| Right.never_issued(t, n)) } else { Right.holds(refusal, t, asked) }
+});
+wrong!(OldInUseIsSound: fn clause_holds(&self, clause: Clause, t: &Table) -> bool {
+    let issued = t.patches().all(|(_, p)| !Right.never_issued(t, p.number));
+    if clause == Clause::NumbersIssued { issued } else { Right.clause_holds(clause, t) }
+});
+wrong!(OldWaits: fn ask(&self, t: &Table, number: u32) -> Result<Standing, Refusal> {
+    Right.ask(t, number).map(|standing| if old(t, number) { Standing::Waiting } else { standing })
+});
+wrong!(OldInFlight: fn ask(&self, t: &Table, number: u32) -> Result<Standing, Refusal> {
+    Right.ask(t, number).map(|standing| if old(t, number) { Standing::InFlight } else { standing })
+});
+wrong!(OldWaitsInFreeSlot: fn ask(&self, t: &Table, number: u32) -> Result<Standing, Refusal> {
+    let there = old(t, number) && t.slots.iter().any(|slot| slot.number == number);
+    Right.ask(t, number).map(|standing| if there { Standing::Waiting } else { standing })
+});
+wrong!(JoinTakesOldForSlot0: fn gained(&self, t: &Table, c: &Change) -> Slots {
+    let slot_0 = (t.slots[0].used() && t.slots[0].block != c.block && c.named.iter().any(|&n| old(t, n))).then_some(0);
+    Right.gained(t, c).into_iter().chain(slot_0).collect()
+});
+wrong!(OpenStartsAt1: fn open(&self, first: u32) -> (Result<(), Refusal>, Table) {
+    let (judged, table) = Right.open(first);
+    (judged, Table { first: 1, ..table })
+});
+
+/// Takes an old number for that of a slot in use, if there is one such.
+type Mistaken = fn(&Table, u32) -> Option<usize>;
+
+fn slot_0(table: &Table, _: u32) -> Option<usize> {
+    table.slots[0].used().then_some(0)
+}
+
+fn slot_by_digits(table: &Table, number: u32) -> Option<usize> {
+    let slot = number as usize % SLOTS;
+    table.slots[slot].used().then_some(slot)
+}
+
+fn alike_by<const DIGITS: u32>(table: &Table, number: u32) -> Option<usize> {
+    table.patches().find(|(_, patch)| patch.number % DIGITS == number % DIGITS).map(|(slot, _)| slot)
+}
+
+fn lowest_in_use(table: &Table, _: u32) -> Option<usize> {
+    table.patches().min_by_key(|(_, patch)| patch.number).map(|(slot, _)| slot)
+}
+
+/// A name from before the opening brings a before.
+struct Follows(Mistaken);
+
+impl Model for Follows {
+    fn named(&self, table: &Table, change: &Change) -> Slots {
+        let mistaken = change.named.iter().filter(|&&n| old(table, n)).filter_map(|&n| self.0(table, n));
+        Right.named(table, change).into_iter().chain(mistaken).collect()
+    }
+}
+
+/// Ask of a number from before the opening says how another stands.
+struct Says(Mistaken);
+
+impl Model for Says {
+    fn ask(&self, table: &Table, number: u32) -> Result<Standing, Refusal> {
+        let committed = Right.ask(table, number)?;
+        let mistaken = if old(table, number) { self.0(table, number) } else { None };
+        mistaken.map_or(Ok(committed), |slot| Right.ask(table, table.slots[slot].number))
+    }
+}
+
 fn low_byte_of_room(slot: &mut Slot) {
     if let State::WaitingSoft { room } = &mut slot.state {
         *room %= 256;
@@ -347,7 +468,7 @@ fn entries() -> Vec<Entry> {
         entry("the end of the block off by one", EndOffByOne, false),
         entry("taken back in order of slots", SlotOrder, true),
         entry("nothing taken back", TakesNothingBack, true),
-        entry("the coming number passes for issued", NextIsIssued, false),
+        entry("the coming number passes for issued", NextIsIssued, true),
         entry("hard ones go alone where they may", SmallestSet, false),
         entry("touching ranges overlap", TouchingOverlaps, false),
         entry("overlap with one in flight is no before", OverlapOnlyWaiting, false),
@@ -408,6 +529,7 @@ fn entries() -> Vec<Entry> {
         entry("open refused keeps the first given", OpenKeepsFirst, false),
     ];
     entries.extend(joining());
+    entries.extend(before_the_opening());
     for clause in CLAUSES {
         entries.push(entry(&format!("soundness without {clause:?}"), Forgets(clause), false));
     }
@@ -445,6 +567,43 @@ fn joining() -> Vec<Entry> {
         entry("9 given to one that joins", RefusesJoins(Refusal::NoFreeSlot), false),
         entry("8 not given to a soft one beside others", SpareOfSoft(Refusal::NoNumberLeft), false),
         entry("9 not given to a soft one beside others", SpareOfSoft(Refusal::NoFreeSlot), false),
+    ]
+}
+
+/// A refusal breaks no cut, and neither does one before too many.
+fn before_the_opening() -> Vec<Entry> {
+    vec![
+        entry("0 passes for committed", ZeroHasCommitted, true),
+        entry("first passes for committed, not yet issued", FirstHasCommitted, true),
+        entry("numbers below first are refused", NothingOldIssued, false),
+        entry("the same, in create only", RefusesOldIn(Kind::Create), false),
+        entry("the same, in ask only", RefusesOldIn(Kind::Ask), false),
+        entry("the same, where the change joins", JoinRefusesOld, false),
+        entry("the same, for first - 1 alone", LastOldUnknown, false),
+        entry("the same, for 1 alone", OneUnknown, false),
+        entry("the same, 65,537 numbers ago", FarOldUnknown, false),
+        entry("the same, until one is issued", OldUnknownJustOpened, false),
+        entry("the same, once one is issued", OldUnknownLater, false),
+        entry("names below first are not counted", OldNamesNotCounted, false),
+        entry("names after one below first are dropped", OldEndsTheNames, true),
+        entry("all names beside one below first dropped", OldDropsAllNames, true),
+        entry("the name before one below first dropped", OldDropsTheOneBefore, true),
+        entry("names after one below first not tested", OldEndsTheTest, true),
+        entry("below first taken for slot 0's, in create", Follows(slot_0), false),
+        entry("below first taken for slot 0's, in ask", Says(slot_0), true),
+        entry("below first taken for slot 0's, in a join", JoinTakesOldForSlot0, false),
+        entry("below first taken for slot % 64, in create", Follows(slot_by_digits), false),
+        entry("below first taken for slot % 64, in ask", Says(slot_by_digits), true),
+        entry("below first by low byte, in create", Follows(alike_by::<256>), false),
+        entry("below first by low byte, in ask", Says(alike_by::<256>), false),
+        entry("below first by low 16 digits, in create", Follows(alike_by::<65_536>), false),
+        entry("below first by low 16 digits, in ask", Says(alike_by::<65_536>), false),
+        entry("below first taken for the lowest in use", Follows(lowest_in_use), false),
+        entry("ask below first says waiting", OldWaits, true),
+        entry("ask below first says in flight", OldInFlight, true),
+        entry("ask below first is found in a free slot", OldWaitsInFreeSlot, false),
+        entry("a number in use below first is sound", OldInUseIsSound, false),
+        entry("open forgets its first number", OpenStartsAt1, false),
     ]
 }
 

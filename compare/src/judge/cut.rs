@@ -3,26 +3,21 @@
 //!
 //! Completed writes have landed; of the writes still out any may have landed. However that is, the
 //! store must be the opening with the landed changes carried out singly in the order they were
-//! accepted, and whatever a landed change named must have landed too.
+//! accepted, and whatever a landed change named must have landed too. Where other histories came before
+//! on the same store, the opening is the first one, with the changes that landed since (life.rs).
+//!
+//! A name below the first number asks for nothing in this history: it is not looked up among its changes.
 //!
 //! A number may stand for several changes, which land together: it is given again only while its patch waits. A change that names
 //! it asks for those accepted earlier, and for no later one.
 
 use crate::judge::cover::Cover;
+use crate::judge::life::{Accepted, Past, carry};
 use crate::model::bytes::set_of;
 use crate::model::setting::Setting;
 use crate::model::table::{BLOCK_BYTES, SLOTS};
 use crate::orders::steps::{Answer, Call, Lent};
 use std::collections::{BTreeMap, BTreeSet};
-
-/// An accepted change; its place among all of them is the order.
-struct Accepted {
-    number: u32,
-    block: u32,
-    offset: u32,
-    data: Vec<u8>,
-    named: Vec<u32>,
-}
 
 /// A granted write that is out, and the numbers it sent.
 struct Out {
@@ -32,8 +27,11 @@ struct Out {
 
 pub struct History {
     setting: Setting,
+    first: u32,
+    past: Past,
+    /// The first opening with the changes that landed in the histories before.
     opening: Vec<u8>,
-    /// The opening with the blocks of all completed writes.
+    /// The image at the opening, with the blocks of all completed writes.
     store: Vec<u8>,
     accepted: Vec<Accepted>,
     out: BTreeMap<u32, Out>,
@@ -44,10 +42,12 @@ pub struct History {
 }
 
 impl History {
-    pub fn opened(setting: Setting, image: &[u8]) -> History {
+    pub fn opened(setting: Setting, first: u32, past: Past, image: &[u8]) -> History {
         History {
             setting,
-            opening: image.to_vec(),
+            first,
+            opening: past.store(),
+            past,
             store: image.to_vec(),
             accepted: Vec::new(),
             out: BTreeMap::new(),
@@ -68,7 +68,8 @@ impl History {
             Call::Open { .. } => Err(String::from("an opening begins a history, and is none of its calls")),
             Call::Create { block, offset, data, named } => {
                 let (number, data, named) = (answer.number, data.clone(), named.clone());
-                self.accept(Accepted { number, block: *block, offset: *offset, data, named }, answer.hold)
+                let change = Accepted { number, block: *block, offset: *offset, data, named };
+                self.accept(change, answer.hold, cover)
             }
             Call::Write { block } => self.send(*block, answer.set, handed, cover),
             Call::Complete { block } => self.complete(*block, cover),
@@ -78,20 +79,42 @@ impl History {
     }
 
     /// A change of a new number takes the lowest free slot; one of a number given before goes with that number's changes.
-    fn accept(&mut self, change: Accepted, hold: u32) -> Result<(), String> {
-        if let Some(unknown) = change.named.iter().find(|&&number| self.changes_of(number).next().is_none()) {
-            return Err(format!("a change was accepted that names {unknown}, which was never given"));
+    fn accept(&mut self, mut change: Accepted, hold: u32, cover: &mut Cover) -> Result<(), String> {
+        change.named = self.asked_for(&change.named, cover)?;
+        if change.number < self.first {
+            return Err(format!("number {} was given, which is below first", change.number));
         }
-        if self.changes_of(change.number).next().is_some() {
+        if self.was_given(change.number) {
             self.may_share(&change, hold)?;
         } else {
             let Some(free) = self.slots.iter_mut().find(|slot| slot.is_none()) else {
                 return Err(String::from("a change was accepted with all slots in use"));
             };
             *free = Some(change.number);
+            self.past.see_given(change.number, cover);
         }
         self.accepted.push(change);
         Ok(())
+    }
+
+    /// Those of the named numbers that this history gave. Any other must be from before its opening.
+    fn asked_for(&self, named: &[u32], cover: &mut Cover) -> Result<Vec<u32>, String> {
+        let (old, named): (Vec<u32>, Vec<u32>) = named.iter().partition(|&&number| self.is_old(number));
+        if let Some(unknown) = named.iter().find(|&&number| !self.was_given(number)) {
+            return Err(format!("a change was accepted that names {unknown}, which was never given"));
+        }
+        old.iter().for_each(|&number| self.past.see_old_name(number, cover));
+        named.iter().for_each(|&number| self.past.see_name(number, cover));
+        Ok(named)
+    }
+
+    /// From before the opening: committed, whatever was given then.
+    fn is_old(&self, number: u32) -> bool {
+        1 <= number && number < self.first
+    }
+
+    fn was_given(&self, number: u32) -> bool {
+        self.changes_of(number).next().is_some()
     }
 
     /// Is this a number that may be given again, by what was noted?
@@ -137,7 +160,7 @@ impl History {
             if self.sent(number) {
                 return Err(format!("number {number} was sent twice"));
             }
-            if self.changes_of(number).next().is_none() {
+            if !self.was_given(number) {
                 return Err(format!("number {number} was sent, and is no accepted change's"));
             }
             if self.changes_of(number).any(|change| change.block != block) {
@@ -170,16 +193,31 @@ impl History {
     }
 
     fn asked(&self, number: u32, state: u32, cover: &mut Cover) -> Result<(), String> {
-        let noted = match (self.sent(number), self.landed.contains(&number)) {
-            (false, _) => 1,
-            (true, false) => 2,
-            (true, true) => 3,
-        };
-        cover.add("cut: ask as noted", noted);
+        let noted = self.noted(number)?;
         if state != noted {
             return Err(format!("ask says {state} of {number}, the notes {noted}"));
         }
+        if self.is_old(number) {
+            self.past.see_old_asked(number, cover);
+            return Ok(());
+        }
+        cover.add("cut: ask as noted", noted);
         if noted == 3 { self.all_on_the_store(number, cover) } else { Ok(()) }
+    }
+
+    /// How a number stands by the notes. Those from before the opening are not looked up in them.
+    fn noted(&self, number: u32) -> Result<u32, String> {
+        if self.is_old(number) {
+            return Ok(3);
+        }
+        if !self.was_given(number) {
+            return Err(format!("ask was granted of {number}, which was never given"));
+        }
+        Ok(match (self.sent(number), self.landed.contains(&number)) {
+            (false, _) => 1,
+            (true, false) => 2,
+            (true, true) => 3,
+        })
     }
 
     /// What is called committed is on the store with all its changes: its block there is the opening's with all that committed.
@@ -223,6 +261,23 @@ impl History {
         self.out.keys().copied().collect()
     }
 
+    /// Nothing waits and nothing is out: the store is the working image, and a sleep loses nothing.
+    pub fn at_rest(&self) -> bool {
+        self.slots.iter().all(|slot| slot.is_none())
+    }
+
+    /// The power goes, with the writes of these blocks landed of those that are out. What the next history has behind it.
+    pub fn ended(mut self, landed: &[u32], cover: &mut Cover) -> Result<Past, String> {
+        let landed: Vec<u32> = self.blocks_out().into_iter().filter(|block| landed.contains(block)).collect();
+        self.cut_with(&landed, cover)?;
+        for block in landed {
+            self.complete(block, cover)?;
+        }
+        self.past.add(self.first, self.accepted, &self.landed);
+        self.past.rest_is_untouched(&self.store)?;
+        Ok(self.past)
+    }
+
     /// Cuts with none of the writes out landed, with each of them alone, and with all.
     ///
     /// That is every cut there is: each change sent is of its write's block, so a block's bytes depend on its own write alone, and
@@ -254,7 +309,7 @@ impl History {
         self.accepted
             .iter()
             .filter(|change| landed(change))
-            .for_each(|change| carry_out(&mut expected, change));
+            .for_each(|change| change.carry_out(&mut expected));
         same_bytes(&self.store_after(blocks), &expected, 0, blocks)
     }
 
@@ -296,7 +351,7 @@ impl History {
 
     /// When every accepted change has committed, the store is the working image.
     pub fn settled(&self, lent: &Lent, cover: &mut Cover) -> Result<(), String> {
-        if self.slots.iter().all(|slot| slot.is_none()) && !self.accepted.is_empty() {
+        if self.at_rest() && !self.accepted.is_empty() {
             cover.add("cut: all committed, store equals working image", 0);
             if self.store != lent.image {
                 return Err(String::from("all changes committed, but the store is not the working image"));
@@ -324,24 +379,20 @@ fn land(store: &mut [u8], block: u32, handed: &[u8]) {
     carry(store, BLOCK_BYTES * block as usize, handed);
 }
 
-fn carry_out(store: &mut [u8], change: &Accepted) {
-    carry(store, BLOCK_BYTES * change.block as usize + change.offset as usize, &change.data);
-}
-
-fn carry(store: &mut [u8], from: usize, bytes: &[u8]) {
-    for (place, byte) in store.iter_mut().skip(from).zip(bytes) {
-        *place = *byte;
-    }
-}
-
 #[cfg(test)]
 mod tests {
     use super::*;
-    use crate::orders::steps::{create, write};
+    use crate::orders::steps::{ask, create, write};
+
+    const IMAGE: [u8; 64 * BLOCK_BYTES] = [0; 64 * BLOCK_BYTES];
+
+    fn cover() -> Cover {
+        Cover::default()
+    }
 
     /// A history of an all zero image in which 1 waits on block 1, and 2 on block 2.
     fn two_wait(setting: Setting) -> History {
-        let mut history = History::opened(setting, &[0; 64 * BLOCK_BYTES]);
+        let mut history = History::opened(setting, 1, Past::none(&IMAGE), &IMAGE);
         for number in [1, 2] {
             assert_eq!(given(&mut history, number, number, 1), Ok(()));
         }
@@ -352,12 +403,34 @@ mod tests {
     fn given(history: &mut History, block: u32, number: u32, hold: u32) -> Result<(), String> {
         let answer = Answer { number, hold, ..Answer::default() };
         let offset = history.accepted.len() as u32;
-        history.record(&create(block, offset, &[7], &[]).call, &answer, &[], &mut Cover::default())
+        history.record(&create(block, offset, &[7], &[]).call, &answer, &[], &mut cover())
+    }
+
+    /// A hard change of block 3 that names numbers.
+    fn naming(history: &mut History, number: u32, named: &[u32]) -> Result<(), String> {
+        let answer = Answer { number, hold: 1, ..Answer::default() };
+        history.record(&create(3, 9, &[7], named).call, &answer, &[], &mut cover())
     }
 
     fn sent(history: &mut History, block: u32, set: u64, handed: &[u8]) -> Result<(), String> {
         let answer = Answer { set, ..Answer::default() };
-        history.record(&write(block).call, &answer, handed, &mut Cover::default())
+        history.record(&write(block).call, &answer, handed, &mut cover())
+    }
+
+    fn says(history: &mut History, number: u32, state: u32) -> Result<(), String> {
+        let answer = Answer { state, ..Answer::default() };
+        history.record(&ask(number).call, &answer, &[], &mut cover())
+    }
+
+    /// The history above after a cut in which 1 landed and 2 was lost, opened again on that store.
+    fn opened_again(first: u32) -> History {
+        let mut before = two_wait(Setting::Board);
+        let mut handed = [0; BLOCK_BYTES];
+        handed[0] = 7;
+        assert_eq!(sent(&mut before, 1, 1, &handed), Ok(()));
+        let image = before.store_after(&[1]);
+        let past = before.ended(&[1], &mut cover()).expect("a cut that the store survives");
+        History::opened(Setting::Board, first, past, &image)
     }
 
     #[test]
@@ -383,7 +456,60 @@ mod tests {
             let mut history = two_wait(Setting::Board);
             assert_eq!(given(&mut history, 1, 1, 1), Ok(()));
             assert_eq!(sent(&mut history, 1, 1, &handed), Ok(()));
-            assert_eq!(history.cut(&mut Cover::default()).is_ok(), whole);
+            assert_eq!(history.cut(&mut cover()).is_ok(), whole);
         }
+    }
+
+    #[test]
+    fn a_name_below_first_asks_for_nothing() {
+        for (named, may) in [(1, true), (2, true), (0, false), (3, false), (4, false)] {
+            assert_eq!(naming(&mut opened_again(3), 3, &[named]).is_ok(), may, "{named} named");
+            assert_eq!(says(&mut opened_again(3), named, 3).is_ok(), may, "{named} asked for");
+        }
+        assert!(says(&mut opened_again(3), 2, 1).is_err(), "below first, and waiting");
+        assert!(naming(&mut opened_again(3), 2, &[]).is_err(), "a number below first given");
+    }
+
+    #[test]
+    fn a_number_of_two_histories_is_the_later_ones() {
+        for (first, may) in [(3, true), (2, false)] {
+            let mut history = opened_again(first);
+            let mut slots = 0;
+            if first == 2 {
+                assert_eq!(given(&mut history, 2, 2, 1), Ok(()));
+                slots = 1;
+            }
+            assert_eq!(naming(&mut history, 3, &[1, 2]), Ok(()));
+            let mut handed = [0; BLOCK_BYTES];
+            handed[9] = 7;
+            assert_eq!(sent(&mut history, 3, 1 << slots, &handed), Ok(()));
+            assert_eq!(history.cut(&mut cover()).is_ok(), may, "2 waits where first is 2");
+        }
+    }
+
+    #[test]
+    fn a_life_is_held_to_its_first_opening() {
+        for (earlier, kept) in [(7, true), (0, false), (8, false)] {
+            let mut history = opened_again(3);
+            assert_eq!(history.cut(&mut cover()), Ok(()));
+            let answer = Answer { number: 3, hold: 1, ..Answer::default() };
+            let change = create(1, 5, &[9], &[]).call;
+            assert_eq!(history.record(&change, &answer, &[], &mut cover()), Ok(()));
+            let mut handed = [0; BLOCK_BYTES];
+            (handed[0], handed[5]) = (earlier, 9);
+            assert_eq!(sent(&mut history, 1, 1, &handed), Ok(()));
+            assert_eq!(history.cut(&mut cover()).is_ok(), kept, "{earlier} where 7 landed before");
+            assert_eq!(history.ended(&[1], &mut cover()).is_ok(), kept);
+        }
+    }
+
+    #[test]
+    fn an_image_that_is_not_the_stores_shows() {
+        let past = || opened_again(3).past;
+        let mut image = past().store();
+        assert_eq!(past().rest_is_untouched(&image), Ok(()));
+        image[BLOCK_BYTES * 5] = 1;
+        assert!(past().rest_is_untouched(&image).is_err());
+        assert!(History::opened(Setting::Board, 3, past(), &image).cut(&mut cover()).is_err());
     }
 }

@@ -86,22 +86,23 @@ impl<'a> Driver<'a> {
         })
     }
 
-    /// Opens a table and works on it, with cuts after every call; half of the time drains it.
+    /// Opens a table and works on it, with cuts after every call; half of the time drains it. Half of the orders are lives: they open
+    /// again and again.
     fn with_history(&mut self, mut random: Random, fill: u64) -> Result<(), Stop> {
         let mut order = Order { fill, ..Order::of(&[]) };
         let calls = random.between(10, 260) as usize;
-        let first = opening(&mut random, self.setting());
+        let first = first_number(&mut random);
+        let first = opening(&mut random, self.setting(), first);
         let taste = Taste::of_seed(&mut random);
         let drain = random.percent(50);
-        let opens_again = random.percent(30);
-        let mut maker = Maker { random, taste };
+        let opens_again = random.pick(&[0, 0, 2, 6]);
+        let mut maker = Maker::new(random, taste);
         let mut run = Run::start(self.pair, &order);
         self.call(&mut run, &mut order, first)?;
         for _ in 0..calls {
             let Some(table) = &run.table else { break };
-            let again = opens_again && maker.random.percent(2);
-            let step =
-                if again { open_again(&mut maker.random, self.setting(), &run) } else { maker.step(table) };
+            let again = opens_again > 0 && maker.random.percent(opens_again);
+            let step = if again { open_again(&mut maker, table, &run) } else { maker.step(table) };
             self.call(&mut run, &mut order, step)?;
         }
         if drain {
@@ -193,22 +194,39 @@ impl<'a> Driver<'a> {
 }
 
 /// An opening, at times one that is refused.
-fn opening(random: &mut Random, setting: Setting) -> Step {
-    let step = open(first_number(random));
+fn opening(random: &mut Random, setting: Setting, first: u32) -> Step {
+    let step = open(first);
     if random.percent(5) { faults::spoil(random, &Table::empty(setting, 1), step) } else { step }
 }
 
-/// Another opening in the midst of an order: on the image as it stands, or after a cut that some of the writes out survived.
-fn open_again(random: &mut Random, setting: Setting, run: &Run) -> Step {
-    let step = opening(random, setting);
-    if random.percent(30) {
+/// Another opening in the midst of an order: on the image as it stands, or, mostly, after a cut that some of the writes out survived.
+/// The numbers given last are held from then on.
+fn open_again(maker: &mut Maker, table: &Table, run: &Run) -> Step {
+    maker.held.extend((table.first..table.next).rev().take(NUMBERS_HELD));
+    let random = &mut maker.random;
+    let first = next_first(random, table.next);
+    let step = opening(random, table.setting, first);
+    if random.percent(15) {
         return step;
     }
     let landed: Vec<u32> = run.blocks_out().into_iter().filter(|_| random.percent(50)).collect();
     step.after_cut(&landed)
 }
 
-/// Likes the blocks of the table.
+/// How many of an opening's numbers are held when it ends.
+const NUMBERS_HELD: usize = 20;
+
+/// The first number after a sleep: mostly the old next, as a radio has it; else one above it, one not above it, or any.
+fn next_first(random: &mut Random, next: u32) -> u32 {
+    match random.below(8) {
+        0..4 => next,
+        4 => next.saturating_add(random.between(1, 300)),
+        5 | 6 => random.between(1, next.max(1)),
+        _ => first_number(random),
+    }
+}
+
+/// Likes the blocks of the table, and holds the numbers that stand in its free slots.
 fn single_maker(mut random: Random, table: &Table) -> Maker {
     let mut taste = Taste::of_seed(&mut random);
     taste.blocks.truncate(2);
@@ -216,7 +234,10 @@ fn single_maker(mut random: Random, table: &Table) -> Maker {
     taste.weights =
         random.pick(&[[40, 25, 20, 8, 7], [20, 60, 10, 5, 5], [10, 10, 60, 10, 10], [80, 10, 5, 3, 2]]);
     taste.faults = 15;
-    Maker { random, taste }
+    let mut maker = Maker::new(random, taste);
+    maker.held.extend(table.slots.iter().filter(|slot| !slot.used()).map(|slot| slot.number));
+    maker.held.retain(|&number| number != 0);
+    maker
 }
 
 /// A call as the maker likes it, at times an open.

@@ -2,6 +2,7 @@
 
 use crate::judge::cover::Cover;
 use crate::judge::cut::History;
+use crate::judge::life::Past;
 use crate::judge::watch;
 use crate::library::calls::Library;
 use crate::model::bytes::{SLOT_BYTES, TABLE_BYTES, decode};
@@ -90,7 +91,7 @@ impl<'a> Run<'a> {
         }
         let what = match what {
             Some(what) => Some(what),
-            None => self.cut(&step.call, &answer, cover).err(),
+            None => self.cut(step, &answer, cover).err(),
         };
         self.made += 1;
         match what {
@@ -114,21 +115,19 @@ impl<'a> Run<'a> {
     }
 
     /// Every opening that gives a table begins a history, refused or not: the image is what its store holds.
-    fn cut(&mut self, call: &Call, answer: &Answer, cover: &mut Cover) -> Result<(), String> {
+    fn cut(&mut self, step: &Step, answer: &Answer, cover: &mut Cover) -> Result<(), String> {
         if !self.cuts {
             return Ok(());
         }
-        if let Call::Open { .. } = call {
+        if let Call::Open { first } = step.call {
             if answer.refusal != Refusal::NotSound.number() {
-                let opened = History::opened(self.pair.library.setting(), &self.lent.image);
-                let again = self.history.replace(opened).is_some();
-                cover.add(
-                    if again { "open: another history" } else { "open: the first history" },
-                    answer.refusal,
-                );
+                let again =
+                    if self.history.is_some() { "open: another history" } else { "open: the first history" };
+                cover.add(again, answer.refusal);
+                self.begin(step, if answer.refusal == 0 { first } else { 1 }, cover)?;
             }
         } else if let (0, Some(history)) = (answer.refusal, &mut self.history) {
-            history.record(call, answer, &self.lent.handed, cover)?;
+            history.record(&step.call, answer, &self.lent.handed, cover)?;
         }
         match &self.history {
             None => Ok(()),
@@ -137,6 +136,22 @@ impl<'a> Run<'a> {
                 history.cut(cover)
             }
         }
+    }
+
+    /// Begins a history. After a cut, or with all committed, the life of the store goes on; on an image that is not the store's
+    /// another life begins.
+    fn begin(&mut self, step: &Step, first: u32, cover: &mut Cover) -> Result<(), String> {
+        let past = match (self.history.take(), &step.after_cut) {
+            (Some(before), Some(landed)) => before.ended(landed, cover)?,
+            (Some(before), None) if before.at_rest() => {
+                cover.add("life: opened with all committed, without a cut", 0);
+                before.ended(&[], cover)?
+            }
+            (Some(_) | None, _) => Past::none(&self.lent.image),
+        };
+        past.see_opening(first, cover);
+        self.history = Some(History::opened(self.pair.library.setting(), first, past, &self.lent.image));
+        Ok(())
     }
 }
 

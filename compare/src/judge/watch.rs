@@ -38,14 +38,7 @@ pub fn see(
         }
         Call::Write { block } => see_write(cover, table, *block, &set_of(answer.set)),
         Call::Complete { block } => see_complete(cover, table, *block, lent),
-        Call::Ask { number } => {
-            cover.add("ask: state", answer.state);
-            when(
-                cover,
-                table.next - number > 65_536 && answer.state == 3,
-                "ask: committed more than 65,536 numbers ago",
-            );
-        }
+        Call::Ask { number } => see_asked(cover, table, *number, answer.state),
         Call::Count { block } => see_count(cover, table, *block, answer.count),
     }
 }
@@ -72,6 +65,11 @@ fn see_odd(cover: &mut Cover, kind: Kind, buffer: Buffer, short: bool) {
 /// A number that a slot has already says that the change joined that slot's patch.
 fn see_create(cover: &mut Cover, table: &Table, change: &Change, answer: &Answer) {
     see_change(cover, table, change);
+    if change.named.iter().any(|&number| number < table.first) {
+        see_old_names(cover, table, change);
+        see_beside_old(cover, table, change.named);
+        when(cover, answer.hold != 1, "create: names a number below first, and is soft");
+    }
     if answer.hold == 1 {
         see_hard(cover, table, change.block);
     } else {
@@ -103,10 +101,76 @@ fn see_change(cover: &mut Cover, table: &Table, change: &Change) {
     let last = change.block == LAST_BLOCK && end == BLOCK_BYTES;
     when(cover, last, "create: in the last 64 bytes of the image");
     cover.add("create: so many numbers named", change.named.len() as u32);
-    let committed = change.named.iter().any(|&number| table.slot_of(number).is_none());
+    let committed = change.named.iter().any(|&number| committed_since(table, number));
     when(cover, committed, "create: committed name dropped");
     let twice = (1..change.named.len()).any(|i| change.named[..i].contains(&change.named[i]));
     when(cover, twice, "create: number named twice");
+}
+
+/// Issued at this opening, and in no slot.
+fn committed_since(table: &Table, number: u32) -> bool {
+    table.first <= number && number < table.next && table.slot_of(number).is_none()
+}
+
+/// A change that names numbers from before the opening: which, and that they are nobody's.
+fn see_old_names(cover: &mut Cover, table: &Table, change: &Change) {
+    let (old, since): (Vec<u32>, Vec<u32>) = change.named.iter().partition(|&&number| number < table.first);
+    cover.add("create: names a number below first", 0);
+    when(cover, old.contains(&1), "create: names 1, with first above 1");
+    when(cover, old.contains(&(table.first - 1)), "create: names first - 1");
+    let twice = (1..old.len()).any(|i| old[..i].contains(&old[i]));
+    when(cover, twice, "create: names a number below first twice");
+    let none_since = table.next == table.first;
+    when(cover, none_since, "create: names a number below first, and nothing was issued since");
+    let befores = Right.befores(table, change);
+    let follows_nothing = since.is_empty() && befores.is_empty();
+    when(cover, follows_nothing, "create: names only numbers below first, and has no befores");
+    let slot_0 = table.slots[0].used() && !befores.contains(&0);
+    when(cover, slot_0, "create: names one below first, slot 0 in use and no before");
+    let alike = old.iter().any(|&number| alike_in_use(table, number));
+    when(cover, alike, "create: names one below first, alike in its low digits with one in use");
+    let remains = old.iter().any(|&number| in_a_free_slot(table, number));
+    when(cover, remains, "create: names one below first that stands in a free slot");
+}
+
+/// What else such a change names.
+fn see_beside_old(cover: &mut Cover, table: &Table, named: &[u32]) {
+    let names = |named: &[u32], test: fn(&Slot) -> bool| {
+        named.iter().filter_map(|&number| table.slot_of(number)).any(|i| test(&table.slots[i]))
+    };
+    when(cover, names(named, Slot::waiting), "create: names one below first and one that waits");
+    when(cover, names(named, Slot::in_flight), "create: names one below first and one in flight");
+    let committed = named.iter().any(|&number| committed_since(table, number));
+    when(cover, committed, "create: names one below first and one committed since");
+    let old = named.iter().position(|&number| number < table.first).unwrap_or(0);
+    when(cover, names(&named[old..], Slot::waiting), "create: names one that waits after one below first");
+}
+
+/// Where a lookup by a number's low byte alone would take it for that of a patch.
+fn alike_in_use(table: &Table, number: u32) -> bool {
+    table.patches().any(|(_, patch)| patch.number % 256 == number % 256)
+}
+
+fn in_a_free_slot(table: &Table, number: u32) -> bool {
+    table.slots.iter().any(|slot| !slot.used() && slot.number == number)
+}
+
+fn see_asked(cover: &mut Cover, table: &Table, number: u32, state: u32) {
+    let far = table.next - number > 65_536;
+    if number >= table.first {
+        cover.add("ask: state", state);
+        when(cover, far && state == 3, "ask: committed more than 65,536 numbers ago");
+        return;
+    }
+    cover.add("ask: below first", 0);
+    when(cover, number == 1, "ask: 1, with first above 1");
+    when(cover, number == table.first - 1, "ask: first - 1");
+    when(cover, table.next == table.first, "ask: below first, and nothing was issued since");
+    when(cover, table.slots[0].used(), "ask: below first, slot 0 in use");
+    when(cover, far, "ask: below first, more than 65,536 below next");
+    let alike = alike_in_use(table, number);
+    when(cover, alike, "ask: below first, alike in its low digits with one in use");
+    when(cover, in_a_free_slot(table, number), "ask: below first, and stands in a free slot");
 }
 
 fn see_hard(cover: &mut Cover, table: &Table, block: u32) {
@@ -154,6 +218,10 @@ fn see_joined(cover: &mut Cover, table: &Table, change: &Change, slot: usize) {
 
 /// What a joined change names, and what becomes of it.
 fn see_gained(cover: &mut Cover, table: &Table, change: &Change, slot: usize) {
+    let old = change.named.iter().any(|&number| number < table.first);
+    when(cover, old, "create: joined, a number below first named");
+    let gained = !Right.gained(table, change).is_subset(&table.slots[slot].befores);
+    when(cover, old && gained, "create: joined, one below first named and a before added");
     for i in change.named.iter().filter_map(|&number| table.slot_of(number)) {
         let named = &table.slots[i];
         let there = table.slots[slot].befores.contains(&i);
@@ -306,12 +374,10 @@ fn see_refused(cover: &mut Cover, table: &Table, step: &Step, refusal: u32) {
         Refusal::ManyNames => {
             when(cover, asked.numbers.len() == 9, "create: refused 6, nine named");
             when(cover, asked.numbers.len() == 264, "create: refused 6, 264 named");
+            let old = asked.numbers.iter().any(|&number| 1 <= number && number < table.first);
+            when(cover, old, "create: refused 6, one below first among them");
         }
-        Refusal::NeverIssued => {
-            let coming = asked.numbers.contains(&table.next);
-            when(cover, coming && step.kind() == Kind::Create, "create: refused 7, its own coming number");
-            when(cover, asked.numbers.contains(&(table.first - 1)), "refused 7, first - 1");
-        }
+        Refusal::NeverIssued => see_never_issued(cover, table, step.kind(), asked.numbers),
         Refusal::NoneMayGo => see_held(cover, table, asked.block),
         Refusal::NoNumberLeft => see_no_place(cover, table, asked.block, NO_NUMBER),
         Refusal::NoFreeSlot => see_no_place(cover, table, asked.block, NO_SLOT),
@@ -319,6 +385,27 @@ fn see_refused(cover: &mut Cover, table: &Table, step: &Step, refusal: u32) {
         Refusal::NoFreeRoom | Refusal::OneInFlight | Refusal::NoneWaits | Refusal::NoneInFlight => {}
         Refusal::FirstNumber => {}
     }
+}
+
+const CREATE_NEVER_ISSUED: [&str; 3] = [
+    "create: refused 7, its own coming number",
+    "create: refused 7, 0 where first is above 1",
+    "create: refused 7, first itself, nothing issued yet",
+];
+const ASK_NEVER_ISSUED: [&str; 3] = [
+    "ask: refused 7, next",
+    "ask: refused 7, 0 where first is above 1",
+    "ask: refused 7, first itself, nothing issued yet",
+];
+
+fn see_never_issued(cover: &mut Cover, table: &Table, kind: Kind, numbers: &[u32]) {
+    let [next, zero, first] = if kind == Kind::Create { CREATE_NEVER_ISSUED } else { ASK_NEVER_ISSUED };
+    let coming = numbers.contains(&table.next);
+    when(cover, coming, next);
+    when(cover, numbers.contains(&0) && table.first > 1, zero);
+    when(cover, coming && table.next == table.first && table.first > 1, first);
+    let old = numbers.iter().any(|&number| 1 <= number && number < table.first);
+    when(cover, old && kind == Kind::Create, "create: refused 7, one below first named too");
 }
 
 const NO_NUMBER: [&str; 3] = [

@@ -1,4 +1,4 @@
-//! The second model: the rules of document 01 and of request a, said once more and in another way than the library.
+//! The second model: the rules of document 01 and of requests a and b, said once more and in another way than the library.
 
 pub mod bytes;
 pub mod rules;

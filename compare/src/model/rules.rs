@@ -1,4 +1,4 @@
-//! The model: the rules of document 01 and of request a, said once more and in another way than the library.
+//! The model: the rules of document 01 and of requests a and b, said once more and in another way than the library.
 //!
 //! Every rule is a method of the trait `Model` with its body here. `Right` takes them all as they
 //! are. A wrong model (wrong.rs) replaces one of them and keeps the rest.
@@ -58,9 +58,10 @@ pub trait Model {
         }
     }
 
-    /// A number from first up to next - 1 was issued; in no slot, it has committed.
+    /// A number from 1 up to next - 1 was issued; in no slot, it has committed. Those below first are in none: they were given before
+    /// this opening.
     fn never_issued(&self, table: &Table, number: u32) -> bool {
-        number < table.first || number >= table.next
+        number == 0 || number >= table.next
     }
 
     // ---- Refusals: the table "holds when", and each call's tests in rising number ----

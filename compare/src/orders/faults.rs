@@ -71,16 +71,17 @@ fn wrong_offset(random: &mut Random, length: usize) -> u32 {
     random.pick(&[past, 255, 256, 257, 65_536, 1 << 31, wrap, wrap_in, u32::MAX - 255, u32::MAX])
 }
 
+/// A number that was never issued: 0, or one not below next. Where nothing was issued since the opening, next is first itself.
 fn wrong_number(random: &mut Random, table: &Table) -> u32 {
-    let below = table.first.saturating_sub(1);
-    random.pick(&[0, below, table.next, table.next, table.next.saturating_add(1), u32::MAX])
+    random.pick(&[0, 0, table.next, table.next, table.next.saturating_add(1), u32::MAX])
 }
 
-/// Nine numbers or more, issued or not.
+/// Nine numbers or more, issued or not, at times with some from before the opening.
 fn many_names(random: &mut Random, table: &Table) -> Vec<u32> {
     let count = random.pick(&[9, 9, 10, 16, 65, 255, 256, 264, 264, 300]);
     let last = table.next.saturating_sub(1).max(table.first);
-    (0..count).map(|_| random.between(table.first, last)).collect()
+    let from = random.pick(&[1, table.first]).min(last);
+    (0..count).map(|_| random.between(from, last)).collect()
 }
 
 fn lend_oddly(random: &mut Random, table: &Table, step: Step, buffers: &[Buffer]) -> Step {

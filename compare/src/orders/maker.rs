@@ -91,13 +91,21 @@ fn none_in_flight(table: &Table) -> bool {
 pub struct Maker {
     pub random: Random,
     pub taste: Taste,
+    /// Numbers that the caller has from elsewhere: from earlier openings of the store, or from free slots.
+    pub held: Vec<u32>,
 }
 
 impl Maker {
+    pub fn new(random: Random, taste: Taste) -> Maker {
+        Maker { random, taste, held: Vec::new() }
+    }
+
     /// The next call for this table.
     pub fn step(&mut self, table: &Table) -> Step {
         let step = self.proper_step(table);
-        if self.random.percent(self.taste.faults) {
+        // Just after an opening next is first itself, and a fault may take it for one from before.
+        let just_opened = table.first > 1 && table.first == table.next;
+        if self.random.percent(self.taste.faults * if just_opened { 3 } else { 1 }) {
             faults::spoil(&mut self.random, table, step)
         } else {
             step
@@ -154,9 +162,9 @@ impl Maker {
         if ends.is_empty() { 0 } else { self.random.pick(&ends).min(BLOCK_BYTES as u64) as u32 }
     }
 
-    /// One to eight numbers that were issued.
+    /// One to eight numbers that were issued, since the opening or before it.
     fn names(&mut self, table: &Table) -> Vec<u32> {
-        if table.next <= table.first {
+        if table.next <= 1 {
             return Vec::new();
         }
         let mut named = if self.taste.chain { vec![table.next - 1] } else { Vec::new() };
@@ -169,15 +177,18 @@ impl Maker {
             let number = if !named.is_empty() && self.random.percent(10) {
                 self.random.pick(&named)
             } else {
-                self.number(table).clamp(table.first, table.next - 1)
+                self.number(table).clamp(1, table.next - 1)
             };
             named.push(number);
         }
         named
     }
 
-    /// A number: mostly one in a slot, else one issued before, if there is one.
+    /// A number: often one from before the opening, if there was any; else mostly one in a slot, else one issued since, if there is one.
     fn number(&mut self, table: &Table) -> u32 {
+        if table.first > 1 && self.random.percent(30) {
+            return self.old_number(table);
+        }
         let in_use: Vec<u32> = table.patches().map(|(_, p)| p.number).collect();
         if !in_use.is_empty() && self.random.percent(70) {
             return self.random.pick(&in_use);
@@ -186,6 +197,25 @@ impl Maker {
             return self.random.between(table.first, table.next - 1);
         }
         table.first
+    }
+
+    /// A number from before the opening: the first or last there is below first, one with the low digits of one in use, one that is
+    /// held, which this opening may have given too, or not yet; or any.
+    fn old_number(&mut self, table: &Table) -> u32 {
+        let last = table.first - 1;
+        match self.random.below(8) {
+            0 => 1,
+            1 | 2 => last,
+            3 => self.like_one_in_use(table).clamp(1, last),
+            4 | 5 if !self.held.is_empty() => self.random.pick(&self.held),
+            _ => self.random.between(1, last),
+        }
+    }
+
+    fn like_one_in_use(&mut self, table: &Table) -> u32 {
+        let in_use: Vec<u32> = table.patches().map(|(_, p)| p.number).collect();
+        let digits = self.random.pick(&[64, 256, 65_536]);
+        if in_use.is_empty() { 0 } else { self.random.pick(&in_use) % digits }
     }
 
     /// Mostly a block where patches wait and none is in flight.

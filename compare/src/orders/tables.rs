@@ -69,7 +69,7 @@ pub fn sound(random: &mut Random, setting: Setting) -> Table {
         {
             table.slots[i] = patch(random, &likes, number, &mut rooms);
         } else if likes.remains && random.percent(30) {
-            table.slots[i] = remains(random);
+            table.slots[i] = remains(random, first);
         }
     }
     if random.percent(40) {
@@ -96,10 +96,11 @@ fn patch(random: &mut Random, likes: &Likes, number: u32, rooms: &mut Vec<u32>) 
     Slot { state, number, block, offset, length, befores: Slots::new() }
 }
 
-/// A free slot in which anything may stand.
-fn remains(random: &mut Random) -> Slot {
+/// A free slot in which anything may stand, a number from before the opening among it.
+fn remains(random: &mut Random, first: u32) -> Slot {
     let mut any = || random.number() as u32 >> (random.number() % 32);
     let (number, block, offset, length) = (any(), any(), any(), any());
+    let number = if random.percent(50) { number } else { random.between(1, first) };
     let befores = (0..SLOTS).filter(|_| random.percent(10)).collect();
     Slot { state: State::Free, number, block, offset, length, befores }
 }
