@@ -65,6 +65,9 @@ life-holds store (u ∷ life) (Lived.again h new l w e) =
     ∙ ap (carriedOut (hasLanded new h) (h .accepted)) (e ∙ life-holds store life l)
     ∙ carried-those (hasLanded new h) (h .accepted) (allLanded life) store
 
+pub life-opening : (store : List ℕ) (life : List PowerUp) (u : PowerUp) → Lived store (u ∷ life) → u .history .opening ≡ carriedOut every (allLanded life) store
+life-opening store life u (Lived.again h new l w e) = e ∙ life-holds store life l
+
 -- each power-up of a life is a history
 pub each-happened : {store : List ℕ} {life : List PowerUp} → Lived store life → (u : PowerUp) → List·Memᴰ u life → Happened (u .history)
 each-happened (Lived.begins e) u m = absurd (List·Memᴰ·not-nil m)

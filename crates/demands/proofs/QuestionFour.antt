@@ -1,7 +1,7 @@
 -- QUESTION FOUR. Only states and cites.
 use Rattle.demands.specs.QuestionFour.{QuestionFour, QuestionFourForLife}
 use Rattle.demands.proofs.Demand3.{demand-3, notes-true, committed-stays}
-use Rattle.demands.proofs.Life.{life-holds, each-happened, life-for-good, names-stay, rest-landed, rest-image}
+use Rattle.demands.proofs.Life.{life-holds, life-opening, each-happened, life-for-good, names-stay, rest-landed, rest-image}
 
 pub question-four : QuestionFour
 question-four = record {
@@ -13,6 +13,7 @@ question-four = record {
 pub question-four-for-life : QuestionFourForLife
 question-four-for-life = record {
   at-any-cut = life-holds;
+  at-opening = life-opening;
   each-safe = λ store life l u m. demand-3 (each-happened l u m) (u .new);
   by-true-notes = λ store life l u m. notes-true (each-happened l u m);
   for-good = life-for-good;

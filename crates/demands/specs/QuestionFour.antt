@@ -2,7 +2,7 @@
 use Prim.Native.Nat.{ℕ, _≤_}
 use mathlib.Core.Path.{_≡_}
 use mathlib.Core.Bool.{Bool, true}
-use mathlib.Core.List.{List, List·Memᴰ}
+use mathlib.Core.List.{List, _∷_, List·Memᴰ}
 use Rattle.rules.specs.declared.AskAnswer.the-variants as ask
 use Rattle.rules.specs.Calls.{Asks}
 use Rattle.demands.specs.History.{History, Accepted, Happened}
@@ -21,6 +21,8 @@ pub record QuestionFourForLife : Type 0 where
   -- after any number of power-ups, calls and cuts the store holds what it held before the first of them, with the landed changes of all carried out singly in
   -- the order accepted
   pub at-any-cut : (store : List ℕ) (life : List PowerUp) → Lived store life → storeLeft life store ≡ carriedOut every (allLanded life) store
+  -- so each finds in its image, at the opening, all that has landed before it
+  pub at-opening : (store : List ℕ) (life : List PowerUp) (u : PowerUp) → Lived store (u ∷ life) → u .history .opening ≡ carriedOut every (allLanded life) store
   -- within each power-up all that its landed changes asked to have before them is landed, and the notes are true
   pub each-safe : (store : List ℕ) (life : List PowerUp) → Lived store life → (u : PowerUp) → List·Memᴰ u life → CutSafe (u .history) (u .new)
   pub by-true-notes : (store : List ℕ) (life : List PowerUp) → Lived store life → (u : PowerUp) → List·Memᴰ u life → NotesTrue (u .history)

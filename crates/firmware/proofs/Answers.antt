@@ -17,6 +17,7 @@ firmware-question-four = record {
 pub firmware-question-four-for-life : FirmwareQuestionFourForLife
 firmware-question-four-for-life = record {
   at-any-cut = λ store life l. question-four-for-life .at-any-cut store life (life-is-life l);
+  at-opening = λ store life u l. question-four-for-life .at-opening store life u (life-is-life l);
   each-safe = λ store life l. question-four-for-life .each-safe store life (life-is-life l);
   by-true-notes = λ store life l. question-four-for-life .by-true-notes store life (life-is-life l);
   for-good = λ life r r′ new w on m a k n p.
