@@ -67,17 +67,16 @@ module _ (h : History) (g : Good h) where
   -- ---- what ask says, and the notes
 
   -- the number is that of a change of this history
-  Own : ℕ → Type 0
+  abbrev Own : ℕ → Type 0
   Own n = (h .table .first ≤ n) × (n < h .table .next)
 
-  issued : (n : ℕ) → h .table .first ≤ n → n < h .table .next → (a : Accepted) × List·Memᴰ a (h .accepted) × (a .number ≡ n)
-  issued n low high = number-taken n (g .numbers) low high
+  issued : (n : ℕ) → Own n → (a : Accepted) × List·Memᴰ a (h .accepted) × (a .number ≡ n)
+  issued n i = number-taken n (g .numbers) (i .0) (i .1)
 
   none-old : (a : Accepted) → List·Memᴰ a (h .accepted) → h .table .first ≤ a .number
   none-old a m = number-least a (g .numbers) m
 
   in-slot : (n i : ℕ) → InSlot (h .table) n i → Own n × (slotOf ss n ≡ some i)
-  unfolding Own
   in-slot n i s =
       let num = s .2 in
       let low = g .sound .number-least i (s .0) (s .1) in
@@ -86,12 +85,10 @@ module _ (h : History) (g : Good h) where
 
   -- the notes on a number of this history are those on where its patch is
   landed-is : (n : ℕ) → Own n → sentIn n (h .landed) ≡ isDone (wordOf ss n)
-  unfolding Own
-  landed-is n i = let a = issued n (i .0) (i .1) in subst (λ (m : ℕ). sentIn m (h .landed) ≡ isDone (wordOf ss m)) (a .2) (g .done (a .0) (a .1))
+  landed-is n i = let a = issued n i in subst (λ (m : ℕ). sentIn m (h .landed) ≡ isDone (wordOf ss m)) (a .2) (g .done (a .0) (a .1))
 
   out-is : (n : ℕ) → Own n → sentIn n (h .inFlight) ≡ isOut (wordOf ss n)
-  unfolding Own
-  out-is n i = let a = issued n (i .0) (i .1) in subst (λ (m : ℕ). sentIn m (h .inFlight) ≡ isOut (wordOf ss m)) (a .2) (g .out (a .0) (a .1))
+  out-is n i = let a = issued n i in subst (λ (m : ℕ). sentIn m (h .inFlight) ≡ isOut (wordOf ss m)) (a .2) (g .out (a .0) (a .1))
 
   waiting-unsent : (n : ℕ) → Asks (h .table) n ask.Waiting → sentIn n (h .inFlight ++ h .landed) ≡ false
   unfolding Says
@@ -109,7 +106,7 @@ module _ (h : History) (g : Good h) where
       out-is n (q .0) ∙ ap isOut (ap (stateAt ss) (q .1) ∙ flying-word (slotAt ss (s .0) .state) (s .2))
 
   committed-landed : (n : ℕ) → h .table .first ≤ n → Asks (h .table) n ask.Committed → sentIn n (h .landed) ≡ true
-  unfolding Says Own
+  unfolding Says
   committed-landed n low p =
       let c = says ask.Committed (p .grant refl) in
       let gone = no-slot ss n (λ i l f. c .1 i (l, carries-used ss n i f, carries-number ss n i f)) in
@@ -140,7 +137,7 @@ module _ (h : History) (g : Good h) where
 
   pub good-notes : NotesTrue h
   good-notes = record {
-    issued = issued;
+    issued = λ n low high. issued n (low, high);
     none-old = none-old;
     named = λ y m n e. named-earlier (h .accepted) y (g .older) m n e;
     known = λ w m n f. let a = g .sent w m n f in (a .0, a .1, a .2);
