@@ -4,7 +4,7 @@ use native.Mathlib.Omega.{arith}
 use native.Mathlib.Decide.{decLe}
 use mathlib.Core.Path.{_≡_, refl, sym, _∙_, ap, ap₂, subst}
 use mathlib.Core.Bool.{Bool, true, false, _||_}
-use mathlib.Core.List.{List, _∷_, _++_, List·Memᴰ, List·Memᴰ·head, List·Memᴰ·tail}
+use mathlib.Core.List.{List, _∷_, _++_, List·Memᴰ, List·Memᴰ·head, List·Memᴰ·tail, Memᴰ·append-left}
 use mathlib.Core.Logic.{_⊎_, inl, inr}
 use mathlib.Core.Option.{Option, some}
 use Rattle.ground.proofs.Decided.{true-or-l, true-or-r}
@@ -20,7 +20,7 @@ use Rattle.rules.proofs.Granted.{write-passed}
 use Rattle.demands.specs.History.{History, Accepted, Sent}
 use Rattle.demands.specs.Demand3.{sentIn, hasLanded, NotesTrue, Later}
 use Rattle.demands.proofs.Log.{number-least, number-taken, named-earlier, block-one}
-use Rattle.demands.proofs.Notes.{sent-in-both, mem-left}
+use Rattle.demands.proofs.Notes.{sent-in-both}
 use Rattle.demands.proofs.Lookup.{slotOf, carries-used, carries-number, carries-of, at-slot, no-slot}
 use Rattle.demands.proofs.AtSlot.{stateAt, wordOf, isDone, isOut, waiting-word, flying-word, out-flies}
 use Rattle.demands.proofs.Good.{Good, none-out}
@@ -59,8 +59,8 @@ module _ (h : History) (g : Good h) where
   alone : (b : ℕ) (lent : List ℕ) (o : Writing) → Writes (h .table) (h .image) (h .undo) lent b o → writeNumber (o .answer) ≡ 0
       → (w : Sent) → List·Memᴰ w (h .inFlight) → w .block ≡ b → ⊥
   alone b lent o p z w m e =
-      let n = g .some w (mem-left (h .landed) w m) in
-      let a = g .sent w (mem-left (h .landed) w m) (n .0) (n .1) in
+      let n = g .some w (Memᴰ·append-left (h .landed) m) in
+      let a = g .sent w (Memᴰ·append-left (h .landed) m) (n .0) (n .1) in
       let out = sym (g .out (a .0) (a .1)) ∙ ap (λ (x : ℕ). sentIn x (h .inFlight)) (a .2) ∙ noted-sent (n .0) (h .inFlight) w m (n .1) in
       none-out h g b (write-passed p z .ready .none-flies) (a .0) (a .1) (a .3 ∙ e) (out-flies (wordOf ss (a .0 .number)) out)
 

@@ -5,7 +5,7 @@ use mathlib.Core.Bool.{Bool, true, false, cond}
 use borrow.Author.Tests.{eq-eqb, lt-ltb, ltb-true}
 use native.Mathlib.Omega.{arith}
 use lib.Dec.{ltb}
-use mathlib.Core.List.{List, _∷_, _++_, map, List·Memᴰ}
+use mathlib.Core.List.{List, _∷_, _++_, map, List·Memᴰ, Memᴰ·append-left}
 use mathlib.Core.Logic.{_≢_, _⊎_, inl, inr}
 use mathlib.Core.Option.{Option, none, some}
 use lib.ListN.{length, getD}
@@ -22,7 +22,7 @@ use Rattle.demands.specs.History.{History, Accepted, Sent}
 use Rattle.demands.specs.Demand3.{written, sentIn, timesSent, Earlier}
 use Rattle.demands.proofs.Log.{plain, Numbered, NamesOlder, block-one}
 use Rattle.demands.proofs.Views.{view, Within}
-use Rattle.demands.proofs.Notes.{AllWhole, mem-left}
+use Rattle.demands.proofs.Notes.{AllWhole}
 use Rattle.demands.proofs.Lookup.{slotOf, slot-carries}
 use Rattle.demands.proofs.AtSlot.{stateAt, wordOf, roomedOf, roomFor, Tied, isDone, isOut, word-flying}
 use Rattle.demands.proofs.Linked.{Linked, room-stays}
@@ -118,7 +118,7 @@ pub record Good (h : History) : Type 0 where
 pub sent-to : (h : History) → Good h → (a : Accepted) → List·Memᴰ a (h .accepted) → (w : Sent) → List·Memᴰ w (h .inFlight)
     → isIn (a .number) (w .numbers) ≡ true → w .block ≡ a .change .block
 sent-to h g a m w k f =
-    let r = g .sent w (mem-left (h .landed) w k) (a .number) f in
+    let r = g .sent w (Memᴰ·append-left (h .landed) k) (a .number) f in
     sym (r .3) ∙ block-one (r .0) a (g .numbers) (r .1) m (r .2)
 
 -- where no patch of a block is in flight, none of its changes is

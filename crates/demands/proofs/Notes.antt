@@ -5,7 +5,7 @@ use native.Mathlib.Omega.{arith}
 use mathlib.Core.Path.{_≡_, refl, sym, _∙_, ap}
 use mathlib.Core.Bool.{Bool, true, false, cond, _&&_, _||_, not, or-assoc}
 use mathlib.Core.List.{List, [], _∷_, _++_, List·Memᴰ, List·Memᴰ·head, List·Memᴰ·tail, List·Memᴰ·not-nil}
-use mathlib.Core.Logic.{_⊎_, inl, inr, ⊎-elim}
+use mathlib.Core.Logic.{_⊎_, inl, inr}
 use lib.Dec.{eqb}
 use lib.ListN.{length}
 use Rattle.ground.proofs.Decided.{clash, or-true}
@@ -142,20 +142,6 @@ of-those test (w ∷ ws) x m = by (test w) refl m (λ k. of-those test ws x k)
     by true e (List·Memᴰ·head q) f = (List·Memᴰ·head q, ap test q ∙ e)
     by true e (List·Memᴰ·tail k) f = let r = f k in (List·Memᴰ·tail (r .0), r .1)
     by false e k f = let r = f k in (List·Memᴰ·tail (r .0), r .1)
-
--- membership in two lists of writes, one before the other
-pub mem-left : {a : List Sent} (b : List Sent) (w : Sent) → List·Memᴰ w a → List·Memᴰ w (a ++ b)
-mem-left b w (List·Memᴰ·head e) = List·Memᴰ·head e
-mem-left b w (List·Memᴰ·tail m) = List·Memᴰ·tail (mem-left b w m)
-
-pub mem-right : (a : List Sent) {b : List Sent} (w : Sent) → List·Memᴰ w b → List·Memᴰ w (a ++ b)
-mem-right [] w m = m
-mem-right (x ∷ a) w m = List·Memᴰ·tail (mem-right a w m)
-
-pub mem-either : (a b : List Sent) (w : Sent) → List·Memᴰ w (a ++ b) → List·Memᴰ w a ⊎ List·Memᴰ w b
-mem-either [] b w m = inr m
-mem-either (x ∷ a) b w (List·Memᴰ·head e) = inl (List·Memᴰ·head e)
-mem-either (x ∷ a) b w (List·Memᴰ·tail m) = ⊎-elim (λ k. inl (List·Memᴰ·tail k)) (λ k. inr k) (mem-either a b w m)
 
 -- ---- how often a number was sent
 

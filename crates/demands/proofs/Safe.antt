@@ -3,7 +3,7 @@ use Prim.Native.Nat.{ℕ}
 use native.Mathlib.Omega.{arith}
 use mathlib.Core.Path.{_≡_, refl, sym, _∙_, ap, ap₂}
 use mathlib.Core.Bool.{Bool, true, false, cond, _&&_, _||_}
-use mathlib.Core.List.{List, [], _∷_, map, List·Memᴰ, List·Memᴰ·head, List·Memᴰ·tail}
+use mathlib.Core.List.{List, [], _∷_, map, List·Memᴰ, List·Memᴰ·head, List·Memᴰ·tail, Memᴰ·append-left}
 use lib.ListN.{length}
 use Rattle.spans.proofs.Laws.{length-splice}
 use Rattle.rules.specs.Sizes.{imageBytes}
@@ -19,7 +19,7 @@ use Rattle.demands.specs.History.{History, Accepted, those}
 use Rattle.demands.specs.Demand3.{onStore, storeAfterCut, sentIn, hasLanded, carriedOut, AskedFor, Follows, CutSafe}
 use Rattle.demands.proofs.Log.{plain, newer-in, older-in, earlier-log}
 use Rattle.demands.proofs.Views.{view, view-splice, view-same, Within}
-use Rattle.demands.proofs.Notes.{length-written, some-written, sent-in-both, sent-in-those, mem-left}
+use Rattle.demands.proofs.Notes.{length-written, some-written, sent-in-both, sent-in-those}
 use Rattle.demands.proofs.AtSlot.{wordOf, isDone, isOut}
 use Rattle.demands.proofs.Good as radio
 use Rattle.demands.proofs.Good.{Good, sent-to}
@@ -83,7 +83,7 @@ module _ (h : History) (g : Good h) (new : ℕ → Bool) where
 
   pub cut-seen : (b i : ℕ) → view (storeAfterCut new h) b i ≡ afterCut new (radio.world h) b i
   unfolding storeAfterCut onStore afterCut
-  cut-seen b i = some-written (h .opening) (g .opening-whole) b i new (h .inFlight) (h .landed) (λ w m. g .whole w (mem-left (h .landed) w m))
+  cut-seen b i = some-written (h .opening) (g .opening-whole) b i new (h .inFlight) (h .landed) (λ w m. g .whole w (Memᴰ·append-left (h .landed) m))
 
   carried : (b i : ℕ) → view (carriedOut (hasLanded new h) (h .accepted) (h .opening)) b i
       ≡ after (only (landed new (radio.world h)) (map plain (h .accepted))) (view (h .opening)) b i

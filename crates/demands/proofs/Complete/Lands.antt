@@ -2,7 +2,7 @@
 use Prim.Native.Nat.{ℕ}
 use mathlib.Core.Path.{_≡_, refl, sym, _∙_, ap}
 use mathlib.Core.Bool.{Bool, true, false, cond, not}
-use mathlib.Core.List.{List, _++_, List·Memᴰ, map}
+use mathlib.Core.List.{List, _++_, List·Memᴰ, map, Memᴰ·append-left}
 use mathlib.Core.Option.{some}
 use mathlib.Core.Logic.{_≢_, _⊎_, inl, inr}
 use borrow.Author.Tests.{eq-eqb, ne-eqb}
@@ -18,7 +18,7 @@ use Rattle.demands.specs.History.{History}
 use Rattle.demands.specs.Demand3.{written}
 use Rattle.demands.proofs.Log.{plain, on-log}
 use Rattle.demands.proofs.Views.{view}
-use Rattle.demands.proofs.Notes.{AllWhole, some-written, written-alike, mem-left}
+use Rattle.demands.proofs.Notes.{AllWhole, some-written, written-alike}
 use Rattle.demands.proofs.Lookup.{slotOf, slot-carries}
 use Rattle.demands.proofs.AtSlot.{stateAt, roomedAt, wordOf, roomedOf, Tied, tie-stays}
 use Rattle.demands.proofs.Good.{oldByte, undo-stays, world, Good}
@@ -65,7 +65,7 @@ module _ {h : History} (g : Good h) (b : ℕ) where
   -- ---- the store
 
   out-whole : AllWhole (h .inFlight)
-  out-whole w m = g .whole w (mem-left (h .landed) w m)
+  out-whole w m = g .whole w (Memᴰ·append-left (h .landed) m)
 
   -- the store with the block's write there
   store-now : (d i : ℕ) → view (written (to-it g b ++ h .landed) (h .opening)) d i

@@ -3,7 +3,7 @@ use Prim.Native.Nat.{ℕ}
 use native.Mathlib.Omega.{arith}
 use mathlib.Core.Path.{_≡_, refl, sym, _∙_, ap, ap₂}
 use mathlib.Core.Bool.{Bool, true, false, _&&_, _||_, not}
-use mathlib.Core.List.{List, _++_, List·Memᴰ}
+use mathlib.Core.List.{List, _++_, List·Memᴰ, Memᴰ·append-left, Memᴰ·append-right, List·Memᴰ·append-cases}
 use mathlib.Core.Logic.{⊎-elim}
 use lib.Dec.{eqb}
 use Rattle.rules.specs.declared.Slot.{Slot}
@@ -11,7 +11,7 @@ use Rattle.cut.specs.World.{Stage, waiting, inFlight, committed, settled, Step}
 use Rattle.cut.proofs.Core.{step-keeps}
 use Rattle.demands.specs.History.{History, Accepted, Sent}
 use Rattle.demands.specs.Demand3.{sentIn}
-use Rattle.demands.proofs.Notes.{sent-in-both, sent-in-those, of-those, mem-left, mem-right, mem-either, times-both, times-parted}
+use Rattle.demands.proofs.Notes.{sent-in-both, sent-in-those, of-those, times-both, times-parted}
 use Rattle.demands.proofs.AtSlot.{wordOf, isDone, isOut}
 use Rattle.demands.proofs.Linked.{linked-kept}
 use Rattle.demands.proofs.Good.{Good, sent-to}
@@ -43,10 +43,10 @@ module _ {h : History} (g : Good h) (b : ℕ) where
   -- every write that is noted was noted before
   noted : (w : Sent) → List·Memᴰ w (elsewhere g b ++ (to-it g b ++ h .landed)) → List·Memᴰ w (h .inFlight ++ h .landed)
   noted w m =
-      ⊎-elim (λ k. mem-left (h .landed) w (of-those (λ w. not (eqb (w .block) b)) (h .inFlight) w k .0))
-      (λ k. ⊎-elim (λ q. mem-left (h .landed) w (of-those (λ w. eqb (w .block) b) (h .inFlight) w q .0)) (λ q. mem-right (h .inFlight) w q)
-      (mem-either (to-it g b) (h .landed) w k))
-      (mem-either (elsewhere g b) (to-it g b ++ h .landed) w m)
+      ⊎-elim (λ k. Memᴰ·append-left (h .landed) (of-those (λ w. not (eqb (w .block) b)) (h .inFlight) w k .0))
+      (λ k. ⊎-elim (λ q. Memᴰ·append-left (h .landed) (of-those (λ w. eqb (w .block) b) (h .inFlight) w q .0)) (λ q. Memᴰ·append-right (h .inFlight) q)
+      (List·Memᴰ·append-cases (to-it g b) k))
+      (List·Memᴰ·append-cases (elsewhere g b) m)
 
   done′ : (a : Accepted) → List·Memᴰ a (h .accepted) → sentIn (a .number) (to-it g b ++ h .landed) ≡ isDone (wordOf ss′ (a .number))
   done′ a m =

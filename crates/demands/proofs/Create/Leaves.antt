@@ -3,7 +3,7 @@ use Prim.Native.Nat.{ℕ, _<_}
 use native.Mathlib.Omega.{arith}
 use mathlib.Core.Path.{_≡_, refl, sym, _∙_, ap, subst}
 use mathlib.Core.Bool.{Bool, true, false}
-use mathlib.Core.List.{List, _∷_, _++_, List·Memᴰ, List·Memᴰ·head, List·Memᴰ·tail}
+use mathlib.Core.List.{List, _∷_, _++_, List·Memᴰ, List·Memᴰ·head, List·Memᴰ·tail, Memᴰ·append-left, Memᴰ·append-right}
 use mathlib.Core.Logic.{_⊎_, inl, inr}
 use borrow.Author.Tests.{eq-eqb}
 use lib.ListN.{length}
@@ -25,7 +25,7 @@ use Rattle.demands.specs.History.{History, Accepted, Sent}
 use Rattle.demands.specs.Demand3.{Earlier, sentIn}
 use Rattle.demands.proofs.Log.{plain, Numbered, names-older, Oldest, Once, oldest-in, newer-in}
 use Rattle.demands.proofs.Views.{Within, inside-of}
-use Rattle.demands.proofs.Notes.{sender, mem-left, mem-right}
+use Rattle.demands.proofs.Notes.{sender}
 use Rattle.demands.proofs.Lookup.{carries, carries-used}
 use Rattle.demands.proofs.AtSlot.{roomed, wordOf, isDone, isOut}
 use Rattle.demands.proofs.Linked.{Range, Has, toldOf, like-room, range-still, told-still}
@@ -135,8 +135,8 @@ module _ {h : History} {c : create.Change} {j : ℕ} {k : Hold} (d : Making h c 
     within = within′;
     image-whole = length-splice (h .image) _ _ ∙ d .good .image-whole;
     opening-whole = d .good .opening-whole;
-    done = noted isDone refl (h .landed) (λ w m. mem-right (h .inFlight) w m) (d .good .done);
-    out = noted isOut refl (h .inFlight) (λ w m. mem-left (h .landed) w m) (d .good .out);
+    done = noted isDone refl (h .landed) (λ w m. Memᴰ·append-right (h .inFlight) m) (d .good .done);
+    out = noted isOut refl (h .inFlight) (λ w m. Memᴰ·append-left (h .landed) m) (d .good .out);
     whole = d .good .whole;
     sent = λ w m n f. let a = d .good .sent w m n f in (a .0, List·Memᴰ·tail (a .1), a .2, a .3);
     some = d .good .some;
