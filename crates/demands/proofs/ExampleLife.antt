@@ -1,35 +1,37 @@
 -- The life of the radio is not empty: after the cut of Example.antt it is opened on what that left, at the old next, 5. A change names the numbers 4, which
--- had landed, and 2, which was lost with the cut: both are old, and it follows nothing. It is written, and the supply is cut while it is in flight.
+-- had landed, and 2, which was lost with the cut: both are old, and it follows nothing. It is written, and the supply is cut while it is in flight. Had it
+-- been completed, the radio would have been at rest.
 use Prim.Native.Nat.{ℕ}
 use mathlib.Core.Path.{_≡_, refl, sym, _∙_, ap}
-use mathlib.Core.Bool.{Bool, true}
-use mathlib.Core.List.{List, [], _∷_}
+use mathlib.Core.Bool.{Bool, true, false}
+use mathlib.Core.List.{List, [], _∷_, List·Memᴰ·head}
 use native.Mathlib.Omega.{arith}
 use lib.ListN.{length, replicate, length-replicate}
 use Rattle.masks.specs.Sets.{bit, has, setBelow, someBelow}
+use Rattle.masks.proofs.Laws.{none-at}
 use Rattle.spans.specs.Spans.{splice}
 use Rattle.spans.proofs.Laws.{length-splice}
 use Rattle.rules.specs.declared.AskAnswer.the-variants as ask
 use Rattle.rules.specs.declared.Setting.the-variants.{Board}
 use Rattle.rules.specs.declared.Hold.the-variants as hold
-use Rattle.rules.specs.Sizes.{imageBytes}
+use Rattle.rules.specs.Sizes.{imageBytes, slots}
 use Rattle.rules.specs.Settings.{undoBytes, allSoft, rooms}
-use Rattle.rules.specs.Table.{slotsFrom}
+use Rattle.rules.specs.Table.{slotsFrom, used}
 use Rattle.rules.specs.Open.{opened}
 use Rattle.rules.specs.Create.{Change, isIn, befores, patch, acceptedSlots, accepted, added, joinedSlots, joined, changed, kept, HoldOf}
 use Rattle.rules.specs.Write.{takenBack, backNumber, backDown, handedOut, sentSlots, sent}
 use Rattle.rules.specs.Rounds.{round, rounds}
 use Rattle.rules.specs.Complete.{landedSlots, completedSlots, completed}
-use Rattle.rules.specs.Calls.{openGranted, createGranted, writeGranted, Asks}
+use Rattle.rules.specs.Calls.{openGranted, createGranted, writeGranted, completeGranted, Asks}
 use Rattle.rules.specs.Rows.{Radio}
 use Rattle.rules.proofs.StaysSound.{opened-sound}
 use Rattle.rules.proofs.OldNumbers.{old-asks}
 use Rattle.rules.proofs.Computed.{allIssued, lowest-free, softTest, hard-tested}
-use Rattle.rules.proofs.Steps.{Good, Made, Went, afterCreate, inBounds, none-to-join, open-row, create-row, write-row}
+use Rattle.rules.proofs.Steps.{Good, Made, Went, Done, afterCreate, afterWrite, inBounds, none-to-join, open-row, create-row, write-row, complete-row}
 use Rattle.demands.specs.History as history
 use Rattle.demands.specs.History.{History, Accepted, Happened, Call, begun, numbersBelow, those}
 use Rattle.demands.specs.Demand3.{written, onStore, storeAfterCut, sentIn, hasLanded, carriedOut}
-use Rattle.demands.specs.Life.{PowerUp, powerUp, storeLeft, Lived, landedIn, allLanded, every}
+use Rattle.demands.specs.Life.{PowerUp, powerUp, storeLeft, Lived, landedIn, allLanded, every, Onward, AtRest}
 use Rattle.demands.proofs.QuestionFour.{question-four-for-life}
 use Rattle.demands.proofs.Example as first
 use Rattle.demands.proofs.Example.{zeros, both, lent, c1, c4, c5, one-lands}
@@ -120,6 +122,37 @@ store-is = refl
 pub carried-is : carriedOut every landed zeros ≡ splice both 1024 (replicate 2 40)
 carried-is =
     ap (λ (l : List Accepted). carriedOut every l zeros) (sym landed-are) ∙ sym (question-four-for-life .at-any-cut zeros life lived) ∙ store-is
+
+-- ---- names stay good, and at rest nothing is lost
+
+onward : Onward life
+unfolding begun history.afterCreate history.afterWrite history.afterComplete accepted joined sent completed
+onward = Onward.then {u = powerUp end all-land} {v = powerUp first.end one-lands} (omega arith) Onward.one
+
+pub note-called-committed : Asks (end .table) 4 ask.Committed
+unfolding begun history.afterCreate history.afterWrite history.afterComplete accepted acceptedSlots slotsFrom patch
+note-called-committed =
+    question-four-for-life .names-stay zeros (powerUp end all-land) (powerUp first.end one-lands ∷ []) lived onward (powerUp first.end one-lands)
+    (List·Memᴰ·head refl) (record { number = 4; change = c5 }) (List·Memᴰ·head refl) .0
+
+abbrev r2 : Radio
+r2 = afterWrite (writeGranted (r1 .table) (r1 .image) (r1 .undo) 4 1)
+
+L3 : Done r2 4
+unfolding slotsFrom accepted acceptedSlots patch befores isIn setBelow sent sentSlots has bit
+L3 = complete-row r2 (L2 .1) 4 0 (omega arith) (omega arith) refl
+
+abbrev asleep : History
+asleep = history.afterComplete end 4 (completeGranted (r2 .table) 4)
+
+rests : AtRest asleep
+unfolding begun history.afterCreate history.afterWrite history.afterComplete
+    slotsFrom accepted acceptedSlots patch befores isIn setBelow sent sentSlots completed completedSlots landedSlots someBelow has bit
+rests i l = none-at (used (completed (r2 .table) 4 .slots)) slots i refl l
+
+pub nothing-lost : storeAfterCut (λ b. false) asleep ≡ asleep .image
+unfolding begun history.afterCreate history.afterWrite history.afterComplete
+nothing-lost = question-four-for-life .at-rest asleep (Happened.calls happened (Call.completes 4 (completeGranted (r2 .table) 4) (L3 .0))) rests (λ b. false) .1
 
 -- ---- what question four does not say: 2 was lost with the first cut, and is called committed all the same. At rest there would have been no such number
 

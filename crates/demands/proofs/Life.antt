@@ -14,7 +14,7 @@ use Rattle.rules.specs.Calls.{Asks}
 use Rattle.rules.proofs.OldNumbers.{old-asks}
 use Rattle.demands.specs.History.{History, Accepted, Happened, those}
 use Rattle.demands.specs.Demand3.{storeAfterCut, hasLanded, carriedOut, Later}
-use Rattle.demands.specs.Life.{PowerUp, storeLeft, Lived, landedIn, allLanded, every, AtRest}
+use Rattle.demands.specs.Life.{PowerUp, storeLeft, Lived, landedIn, allLanded, every, Onward, AtRest}
 use Rattle.demands.specs.QuestionSeven.{Holds}
 use Rattle.demands.proofs.Log.{number-below, number-least}
 use Rattle.demands.proofs.Lookup.{carries-used, no-slot}
@@ -113,12 +113,22 @@ rest-image h w rest new = all-landed h (happened-good w) new (rest-landed h w re
 
 -- ---- old numbers
 
-pub names-stay : (h h′ : History) → Happened h → Happened h′ → h .table .next ≤ h′ .table .first → (a : Accepted) → List·Memᴰ a (h .accepted)
-    → Asks (h′ .table) (a .number) ask.Committed × ((x : Accepted) → List·Memᴰ x (h′ .accepted) → x .number ≡ a .number → ⊥)
-names-stay h h′ w w′ e a m =
-    let g = happened-good w in
-    let g′ = happened-good w′ in
-    let below = number-below a (g .numbers) m in
-    let least = number-least a (g .numbers) m in
+-- opened again and again at a number not below the last next, a radio's first number is not below any next before it
+onward : {store : List ℕ} {u : PowerUp} {life : List PowerUp} → Lived store life → Onward (u ∷ life) → (v : PowerUp) → List·Memᴰ v life
+    → v .history .table .next ≤ u .history .table .first
+onward l Onward.one v m = absurd (List·Memᴰ·not-nil m)
+onward l (Onward.then e o) v (List·Memᴰ·head q) = let same = ap (λ (x : PowerUp). x .history .table .next) q in omega arith
+onward (Lived.again h new l w e) (Onward.then f o) v (List·Memᴰ·tail m) =
+    let below = onward l o v m in let grows = happened-good w .sound .next-least in omega arith
+
+pub names-stay : (store : List ℕ) (u : PowerUp) (life : List PowerUp) → Lived store (u ∷ life) → Onward (u ∷ life)
+    → (v : PowerUp) → List·Memᴰ v life → (a : Accepted) → List·Memᴰ a (v .history .accepted)
+    → Asks (u .history .table) (a .number) ask.Committed × ((x : Accepted) → List·Memᴰ x (u .history .accepted) → x .number ≡ a .number → ⊥)
+names-stay store u life (Lived.again h new l w e) o v m a k =
+    let g = happened-good (each-happened l v m) in
+    let g′ = happened-good w in
+    let first = onward l o v m in
+    let below = number-below a (g .numbers) k in
+    let least = number-least a (g .numbers) k in
     let one = g .sound .first-least in
-    (old-asks (h′ .table) (g′ .sound) (a .number) (omega arith, omega arith), λ x k q. let high = number-least x (g′ .numbers) k in omega arith)
+    (old-asks (h .table) (g′ .sound) (a .number) (omega arith, omega arith), λ x i q. let high = number-least x (g′ .numbers) i in omega arith)

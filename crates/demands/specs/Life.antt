@@ -1,6 +1,6 @@
 -- The radio's whole life: power-ups one after the other. Each has a history of its own, ends in a cut at any moment (a sleep with the radio switched off is
 -- one too), and is opened on the store that the cut before it left.
-use Prim.Native.Nat.{ℕ, _<_}
+use Prim.Native.Nat.{ℕ, _≤_, _<_}
 use mathlib.Core.Path.{_≡_}
 use mathlib.Core.Bool.{Bool, true, false}
 use mathlib.Core.List.{List, [], _∷_, _++_}
@@ -41,6 +41,12 @@ allLanded (u ∷ older) = landedIn u ++ allLanded older
 -- every change, where a test is asked for
 abbrev pub every : Accepted → Bool
 every a = true
+
+-- each power-up was opened at a number not below the next of the one before it
+pub data Onward : List PowerUp → Type 0 where
+  none : Onward []
+  one : {u : PowerUp} → Onward (u ∷ [])
+  then : {u v : PowerUp} {older : List PowerUp} → v .history .table .next ≤ u .history .table .first → Onward (v ∷ older) → Onward (u ∷ v ∷ older)
 
 -- no patch waits, and none is in flight
 abbrev pub AtRest : History → Type 0

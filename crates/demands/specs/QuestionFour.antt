@@ -1,5 +1,5 @@
 -- Question four: show what the store holds if the supply is cut at an arbitrary moment. First of one history, then of the radio's whole life.
-use Prim.Native.Nat.{ℕ, _≤_}
+use Prim.Native.Nat.{ℕ}
 use mathlib.Core.Path.{_≡_}
 use mathlib.Core.Bool.{Bool, true}
 use mathlib.Core.List.{List, _∷_, List·Memᴰ}
@@ -7,7 +7,7 @@ use Rattle.rules.specs.declared.AskAnswer.the-variants as ask
 use Rattle.rules.specs.Calls.{Asks}
 use Rattle.demands.specs.History.{History, Accepted, Happened}
 use Rattle.demands.specs.Demand3.{storeAfterCut, hasLanded, carriedOut, CutSafe, NotesTrue, Later, ForGood}
-use Rattle.demands.specs.Life.{PowerUp, storeLeft, Lived, allLanded, every, AtRest}
+use Rattle.demands.specs.Life.{PowerUp, storeLeft, Lived, allLanded, every, Onward, AtRest}
 
 pub record QuestionFour : Type 0 where
   -- after any history and any cut the store holds the landed changes, carried out singly in accepted order, and all that they asked to have before them
@@ -30,10 +30,11 @@ pub record QuestionFourForLife : Type 0 where
   pub for-good : (life : List PowerUp) (u : PowerUp) → List·Memᴰ u life → (h : History) → Happened h → Later h (u .history)
       → (a : Accepted) → List·Memᴰ a (h .accepted) → Asks (h .table) (a .number) ask.Committed
       → List·Memᴰ a (allLanded life)
-  -- names stay good: in a history h′ that was opened at a number not below the next of h, ask calls the number of every change of h committed, at every
-  -- moment, and no change of h′ has it
-  pub names-stay : (h h′ : History) → Happened h → Happened h′ → h .table .next ≤ h′ .table .first → (a : Accepted) → List·Memᴰ a (h .accepted)
-      → Asks (h′ .table) (a .number) ask.Committed × ((x : Accepted) → List·Memᴰ x (h′ .accepted) → x .number ≡ a .number → ⊥)
-  -- and mean what they say where h ended at rest: every change of it has landed, whatever the cut, and the store holds the working image
+  -- names stay good where each power-up is opened at a number not below the next of the one before it: at every moment ask calls the number of every change
+  -- of an earlier power-up v committed, and no change of the latest, u, has it
+  pub names-stay : (store : List ℕ) (u : PowerUp) (life : List PowerUp) → Lived store (u ∷ life) → Onward (u ∷ life)
+      → (v : PowerUp) → List·Memᴰ v life → (a : Accepted) → List·Memᴰ a (v .history .accepted)
+      → Asks (u .history .table) (a .number) ask.Committed × ((x : Accepted) → List·Memᴰ x (u .history .accepted) → x .number ≡ a .number → ⊥)
+  -- and mean what they say where a history ended at rest: every change of it has landed, whatever the cut, and the store holds the working image
   pub at-rest : (h : History) → Happened h → AtRest h → (new : ℕ → Bool)
       → ((a : Accepted) → List·Memᴰ a (h .accepted) → hasLanded new h a ≡ true) × (storeAfterCut new h ≡ h .image)

@@ -2,7 +2,7 @@
 use Rattle.demands.specs.Life.{powerUp}
 use Rattle.demands.proofs.QuestionFour.{question-four, question-four-for-life}
 use Rattle.demands.proofs.QuestionSeven.{question-seven, question-seven-for-life}
-use Rattle.firmware.specs.Run.{meant}
+use Rattle.firmware.specs.Run.{meant, HasLived}
 use Rattle.firmware.specs.Answers.{FirmwareQuestionFour, FirmwareQuestionFourForLife, FirmwareQuestionSeven, FirmwareQuestionSevenForLife}
 use Rattle.firmware.proofs.Means.{run-is-history, called-committed, answers-three, later-is-later, life-is-life}
 use Rattle.firmware.proofs.Reach as reach
@@ -22,9 +22,9 @@ firmware-question-four-for-life = record {
   by-true-notes = λ store life l. question-four-for-life .by-true-notes store life (life-is-life l);
   for-good = λ life r r′ new w on m a k n p.
       question-four-for-life .for-good life (powerUp (meant r′) new) m (meant r) (run-is-history w) (later-is-later w on) a k (called-committed w p);
-  names-stay = λ r r′ w w′ e a m.
-      let stay = question-four-for-life .names-stay (meant r) (meant r′) (run-is-history w) (run-is-history w′) e a m in
-      (answers-three w′ (stay .0), stay .1);
+  names-stay = λ store life l r new w e o v m a k.
+      let stay = question-four-for-life .names-stay store (powerUp (meant r) new) life (life-is-life (HasLived.again r new l w e)) o v m a k in
+      (answers-three w (stay .0), stay .1);
   at-rest = λ r w. question-four-for-life .at-rest (meant r) (run-is-history w);
 }
 

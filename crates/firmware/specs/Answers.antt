@@ -1,5 +1,5 @@
 -- Questions four and seven of a firmware that links the library, in the words of `demands`.
-use Prim.Native.Nat.{ℕ, _+_, _≤_, _<_}
+use Prim.Native.Nat.{ℕ, _+_, _<_}
 use mathlib.Core.Path.{_≡_}
 use mathlib.Core.Bool.{Bool, true}
 use mathlib.Core.List.{List, _∷_, List·Memᴰ}
@@ -8,9 +8,8 @@ use Rattle.rules.specs.Sizes.{imageBytes, roomStart}
 use Rattle.rules.specs.Create.{Change, place}
 use Rattle.demands.specs.History.{Accepted}
 use Rattle.demands.specs.Demand3.{storeAfterCut, hasLanded, carriedOut, CutSafe, NotesTrue}
-use Rattle.demands.specs.Life.{PowerUp, powerUp, storeLeft, allLanded, every, AtRest}
+use Rattle.demands.specs.Life.{PowerUp, powerUp, storeLeft, allLanded, every, Onward, AtRest}
 use Rattle.demands.specs.QuestionSeven.{SameBut, Holds}
-use Rattle.board.specs.Layout.{tableIn}
 use Rattle.board.specs.Calls.{CreateEnd, CreateCall, WriteEnd, WriteCall, CompleteCall, AskCall}
 use Rattle.firmware.specs.Run.{Run, meant, HasRun, RunsOn, HasLived}
 
@@ -39,12 +38,13 @@ pub record FirmwareQuestionFourForLife : Type 0 where
   pub for-good : (life : List PowerUp) (r r′ : Run) (new : ℕ → Bool) → HasRun r → RunsOn r r′ → List·Memᴰ (powerUp (meant r′) new) life
       → (a : Accepted) → List·Memᴰ a (r .accepted) → (refusal : ℕ) → AskCall (r .bytes) (a .number) refusal 3
       → List·Memᴰ a (allLanded life)
-  -- names stay good: in a run r′ that was opened at a number not below the next of r, ask answers the number of every change of r with 3, at every moment, and
-  -- no change of r′ has it
-  pub names-stay : (r r′ : Run) → HasRun r → HasRun r′ → tableIn (r .bytes) .next ≤ tableIn (r′ .bytes) .first → (a : Accepted) → List·Memᴰ a (r .accepted)
-      → ((refusal state : ℕ) → AskCall (r′ .bytes) (a .number) refusal state → (refusal ≡ 0) × (state ≡ 3))
-      × ((x : Accepted) → List·Memᴰ x (r′ .accepted) → x .number ≡ a .number → ⊥)
-  -- and mean what they say where r ended at rest: every change of it has landed, whatever the cut, and the store holds the working image
+  -- names stay good where each power-up is opened at a number not below the next of the one before it: at every moment ask answers the number of every change
+  -- of an earlier power-up v with 3, and no change of the latest, r, has it
+  pub names-stay : (store : List ℕ) (life : List PowerUp) → HasLived store life → (r : Run) (new : ℕ → Bool) → HasRun r → r .opening ≡ storeLeft life store
+      → Onward (powerUp (meant r) new ∷ life) → (v : PowerUp) → List·Memᴰ v life → (a : Accepted) → List·Memᴰ a (v .history .accepted)
+      → ((refusal state : ℕ) → AskCall (r .bytes) (a .number) refusal state → (refusal ≡ 0) × (state ≡ 3))
+      × ((x : Accepted) → List·Memᴰ x (r .accepted) → x .number ≡ a .number → ⊥)
+  -- and mean what they say where a run ended at rest: every change of it has landed, whatever the cut, and the store holds the working image
   pub at-rest : (r : Run) → HasRun r → AtRest (meant r) → (new : ℕ → Bool)
       → ((a : Accepted) → List·Memᴰ a (r .accepted) → hasLanded new (meant r) a ≡ true) × (storeAfterCut new (meant r) ≡ r .image)
 
