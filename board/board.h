@@ -15,12 +15,13 @@
  *
  * OLD NUMBERS. A number from 1 to first - 1 is from before this opening and means committed: board_ask says 3, and a change that
  * names it follows nothing for it. Open at the old next number (board_next; keep it where it survives) or above it: no number is
- * given twice, and the names that the menus hold stay good. If it is lost, open at 1 and forget all old numbers, as they would
- * come to mean new changes.
+ * given twice, and the names that the menus hold stay good. If it is lost, or is 1,000,000,001 (refused, 15: no number is left),
+ * open at 1 and forget all old numbers, as they would come to mean new changes.
  * - After a deep sleep: each of them is on the store if nothing waited and nothing was in flight before it. So write and complete
  *   until board_count gives 0 for every block and no completion is outstanding; then sleep.
- * - After a power cut: each that board_ask had called committed is on the store. A change that waited or was in flight may be lost,
- *   and its number means committed all the same, as nobody is left who knows. Forget those numbers, or look into the image.
+ * - After a power cut: each that board_ask had called committed before it is on the store. A change that waited or was in flight
+ *   may be lost, and its number means committed all the same, as nobody is left who knows. Forget those numbers, or look into the
+ *   image.
  *
  * YOUR PART
  * - Before board_open, fill the working image from the store: what it held is what every later change lies over.
