@@ -26,6 +26,37 @@ passed {n} {k} {C} {rest} d f = go (f .is)
     go (inl p) = absurd (d (p .1))
     go (inr p) = (p .0, record { is = p .1 })
 
+-- two lists of cases with the same numbers, whose conditions hold alike
+AlikeOf : List Case → List Case → Type 0
+AlikeOf [] [] = Unit {0}
+AlikeOf [] (d ∷ m) = ⊥
+AlikeOf (c ∷ l) [] = ⊥
+AlikeOf (c ∷ l) (d ∷ m) = (c .number ≡ d .number) × (c .condition → d .condition) × (d .condition → c .condition) × AlikeOf l m
+
+pub record Alike (l m : List Case) : Type 0 where
+  is : AlikeOf l m
+
+pub none-differs : Alike [] []
+unfolding AlikeOf
+none-differs = record { is = tt }
+
+pub as-well : {n : ℕ} {C D : Type 0} {l m : List Case} → (C → D) → (D → C) → Alike l m → Alike (case n C ∷ l) (case n D ∷ m)
+unfolding AlikeOf
+as-well f g a = record { is = (refl, f, g, a .is) }
+
+pub as-is : {n : ℕ} {C : Type 0} {l m : List Case} → Alike l m → Alike (case n C ∷ l) (case n C ∷ m)
+as-is a = as-well (λ x. x) (λ x. x) a
+
+-- have the same first one
+alike : (l m : List Case) (k : ℕ) → AlikeOf l m → FirstOf l k → FirstOf m k
+unfolding FirstOf AlikeOf
+alike [] [] k a f = f
+alike (c ∷ l) (d ∷ m) k a (inl p) = inl (a .1 (p .0), p .1 ∙ a .0)
+alike (c ∷ l) (d ∷ m) k a (inr p) = inr (λ h. p .0 (a .2 h), alike l m k (a .3) (p .1))
+
+pub first-alike : {l m : List Case} {k : ℕ} → Alike l m → First l k → First m k
+first-alike {l} {m} {k} a f = record { is = alike l m k (a .is) (f .is) }
+
 one : (cases : List Case) (j k : ℕ) → FirstOf cases j → FirstOf cases k → j ≡ k
 unfolding FirstOf
 one [] j k p q = p ∙ sym q

@@ -22,5 +22,6 @@ pub mod SoundCalls
 pub mod Computed
 pub mod Steps
 pub mod OldNumbers
+pub mod OldNames
 pub mod Session
 pub mod Rows
