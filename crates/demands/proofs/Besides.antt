@@ -11,6 +11,7 @@ use Rattle.ground.proofs.Decided.{true-or-l, true-or-r}
 use Rattle.rules.specs.declared.AskAnswer.{AskAnswer}
 use Rattle.rules.specs.declared.AskAnswer.the-variants as ask
 use Rattle.rules.specs.declared.Slot.{Slot}
+use Rattle.rules.specs.Sizes.{slots}
 use Rattle.rules.specs.Slots.{isWaiting, isInFlight}
 use Rattle.rules.specs.Table.{Table, slotAt, Old, InSlot, Committed}
 use Rattle.rules.specs.Create.{isIn}
@@ -21,7 +22,7 @@ use Rattle.demands.specs.History.{History, Accepted, Sent}
 use Rattle.demands.specs.Demand3.{sentIn, hasLanded, NotesTrue, Later}
 use Rattle.demands.proofs.Log.{number-least, number-taken, named-earlier, block-one}
 use Rattle.demands.proofs.Notes.{sent-in-both}
-use Rattle.demands.proofs.Lookup.{slotOf, carries-used, carries-number, carries-of, at-slot, no-slot}
+use Rattle.demands.proofs.Lookup.{slotOf, carries, carries-used, carries-number, carries-of, at-slot, no-slot}
 use Rattle.demands.proofs.AtSlot.{stateAt, wordOf, isDone, isOut, waiting-word, flying-word, out-flies}
 use Rattle.demands.proofs.Good.{Good, none-out}
 use Rattle.demands.proofs.Later.{landed-for-good}
@@ -105,24 +106,29 @@ module _ (h : History) (g : Good h) where
       let q = in-slot n (s .0) (s .1) in
       out-is n (q .0) ∙ ap isOut (ap (stateAt ss) (q .1) ∙ flying-word (slotAt ss (s .0) .state) (s .2))
 
-  committed-landed : (n : ℕ) → h .table .first ≤ n → Asks (h .table) n ask.Committed → sentIn n (h .landed) ≡ true
+  -- a change of this history whose number is in no slot has landed
+  pub gone-landed : (a : Accepted) → List·Memᴰ a (h .accepted) → ((i : ℕ) → i < slots → carries ss (a .number) i ≡ true → ⊥)
+      → sentIn (a .number) (h .landed) ≡ true
+  gone-landed a m f = g .done a m ∙ ap (λ (x : Option ℕ). isDone (stateAt ss x)) (no-slot ss (a .number) f)
+
+  -- and so one whose number is called committed
+  pub change-landed : (a : Accepted) → List·Memᴰ a (h .accepted) → Asks (h .table) (a .number) ask.Committed → sentIn (a .number) (h .landed) ≡ true
   unfolding Says
-  committed-landed n low p =
+  change-landed a m p =
+      let n = a .number in
       let c = says ask.Committed (p .grant refl) in
-      let gone = no-slot ss n (λ i l f. c .1 i (l, carries-used ss n i f, carries-number ss n i f)) in
-      landed-is n (low, c .0 .1) ∙ ap (λ (x : Option ℕ). isDone (stateAt ss x)) gone
+      gone-landed a m (λ i l f. c .1 i (l, carries-used ss n i f, carries-number ss n i f))
 
   committed : (n : ℕ) → Asks (h .table) n ask.Committed → Old (h .table .first) n ⊎ (sentIn n (h .landed) ≡ true)
   unfolding Says
   committed n p = go (decLe (h .table .first) n)
     where
       go : Dec (h .table .first ≤ n) → Old (h .table .first) n ⊎ (sentIn n (h .landed) ≡ true)
-      go (yes low) = inr (committed-landed n low p)
+      go (yes low) =
+          let a = issued n (low, says ask.Committed (p .grant refl) .0 .1) in
+          let q = change-landed (a .0) (a .1) (subst (λ (m : ℕ). Asks (h .table) m ask.Committed) (sym (a .2)) p) in
+          inr (subst (λ (m : ℕ). sentIn m (h .landed) ≡ true) (a .2) q)
       go (no d) = inl (says ask.Committed (p .grant refl) .0 .0, omega arith)
-
-  -- a change of this history whose number is called committed has landed
-  pub change-landed : (a : Accepted) → List·Memᴰ a (h .accepted) → Asks (h .table) (a .number) ask.Committed → sentIn (a .number) (h .landed) ≡ true
-  change-landed a m p = committed-landed (a .number) (none-old a m) p
 
   -- all changes of a number are of the block that it was sent to
   of-block : (w : Sent) → List·Memᴰ w (h .inFlight ++ h .landed) → (n : ℕ) → isIn n (w .numbers) ≡ true

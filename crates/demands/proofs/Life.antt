@@ -3,7 +3,6 @@ use Prim.Native.Nat.{ℕ, _≤_, _<_}
 use native.Mathlib.Omega.{arith}
 use mathlib.Core.Path.{_≡_, refl, sym, _∙_, ap, subst}
 use mathlib.Core.Bool.{Bool, true, false, cond}
-use mathlib.Core.Option.{Option}
 use mathlib.Core.List.{List, [], _∷_, _++_, List·Memᴰ, List·Memᴰ·head, List·Memᴰ·tail, List·Memᴰ·not-nil, Memᴰ·append-left, Memᴰ·append-right}
 use lib.ListN.{length, getD}
 use Rattle.ground.proofs.Decided.{clash}
@@ -17,8 +16,9 @@ use Rattle.demands.specs.Demand3.{storeAfterCut, hasLanded, carriedOut, 
 use Rattle.demands.specs.Life.{PowerUp, storeLeft, Lived, landedIn, allLanded, every, Onward, AtRest}
 use Rattle.demands.specs.QuestionSeven.{Holds}
 use Rattle.demands.proofs.Log.{number-below, number-least}
-use Rattle.demands.proofs.Lookup.{carries-used, no-slot}
-use Rattle.demands.proofs.AtSlot.{stateAt, isDone}
+use Rattle.demands.proofs.Notes.{among-those}
+use Rattle.demands.proofs.Lookup.{carries-used}
+use Rattle.demands.proofs.Besides.{gone-landed}
 use Rattle.demands.proofs.Histories.{happened-good}
 use Rattle.demands.proofs.Safe.{all-landed}
 use Rattle.demands.proofs.Later.{landed-for-good}
@@ -39,21 +39,6 @@ carried-those test (a ∷ l) older store = go (test a) (carried-those test l old
         ≡ carriedOut every (cond v (a ∷ those test l) (those test l) ++ older) store
     go true e = ap (λ (s : List ℕ). changed s (a .change)) e
     go false e = e
-
--- one that passes the test is among them
-among-those : (test : Accepted → Bool) (l : List Accepted) (a : Accepted) → List·Memᴰ a l → test a ≡ true → List·Memᴰ a (those test l)
-unfolding those
-among-those test [] a m e = absurd (List·Memᴰ·not-nil m)
-among-those test (x ∷ l) a (List·Memᴰ·head q) e = go (test x) (ap test (sym q) ∙ e)
-  where
-    go : (v : Bool) → v ≡ true → List·Memᴰ a (cond v (x ∷ those test l) (those test l))
-    go true t = List·Memᴰ·head q
-    go false t = absurd (clash t refl)
-among-those test (x ∷ l) a (List·Memᴰ·tail m) e = go (test x) (among-those test l a m e)
-  where
-    go : (v : Bool) → List·Memᴰ a (those test l) → List·Memᴰ a (cond v (x ∷ those test l) (those test l))
-    go true k = List·Memᴰ·tail k
-    go false k = k
 
 -- ---- the life
 
@@ -104,9 +89,8 @@ life-place store life l p k =
 -- no slot has the change's number, so it has landed
 pub rest-landed : (h : History) → Happened h → AtRest h → (new : ℕ → Bool) → (a : Accepted) → List·Memᴰ a (h .accepted) → hasLanded new h a ≡ true
 rest-landed h w rest new a m =
-    let ss = h .table .slots in
-    let gone = no-slot ss (a .number) (λ i l f. clash (carries-used ss (a .number) i f) (rest i l)) in
-    landed-for-good h a m (happened-good w .done a m ∙ ap (λ (x : Option ℕ). isDone (stateAt ss x)) gone) h Later.now new .1
+    let gone = gone-landed h (happened-good w) a m (λ i l f. clash (carries-used (h .table .slots) (a .number) i f) (rest i l)) in
+    landed-for-good h a m gone h Later.now new .1
 
 pub rest-image : (h : History) → Happened h → AtRest h → (new : ℕ → Bool) → storeAfterCut new h ≡ h .image
 rest-image h w rest new = all-landed h (happened-good w) new (rest-landed h w rest new)

@@ -131,17 +131,32 @@ sender n (w ∷ ws) e = by (or-true (isIn n (w .numbers)) (sentIn n ws) e) (λ p
     by (inl p) f = (w, List·Memᴰ·head refl, p)
     by (inr p) f = let s = f p in (s .0, List·Memᴰ·tail (s .1), s .2)
 
--- those of a list are of the list, and pass the test
-pub of-those : (test : Sent → Bool) (ws : List Sent) (x : Sent) → List·Memᴰ x (those test ws) → List·Memᴰ x ws × (test x ≡ true)
-unfolding those
-of-those test [] x m = absurd (List·Memᴰ·not-nil m)
-of-those test (w ∷ ws) x m = by (test w) refl m (λ k. of-those test ws x k)
-  where
-    by : (v : Bool) → test w ≡ v → List·Memᴰ x (cond v (w ∷ those test ws) (those test ws))
-        → (List·Memᴰ x (those test ws) → List·Memᴰ x ws × (test x ≡ true)) → List·Memᴰ x (w ∷ ws) × (test x ≡ true)
-    by true e (List·Memᴰ·head q) f = (List·Memᴰ·head q, ap test q ∙ e)
-    by true e (List·Memᴰ·tail k) f = let r = f k in (List·Memᴰ·tail (r .0), r .1)
-    by false e k f = let r = f k in (List·Memᴰ·tail (r .0), r .1)
+-- those of a list that pass a test are of the list and pass it, and every such one is among them
+module _ {A : Type 0} (test : A → Bool) where
+  pub of-those : (l : List A) (x : A) → List·Memᴰ x (those test l) → List·Memᴰ x l × (test x ≡ true)
+  unfolding those
+  of-those [] x m = absurd (List·Memᴰ·not-nil m)
+  of-those (a ∷ l) x m = by (test a) refl m (λ k. of-those l x k)
+    where
+      by : (v : Bool) → test a ≡ v → List·Memᴰ x (cond v (a ∷ those test l) (those test l))
+          → (List·Memᴰ x (those test l) → List·Memᴰ x l × (test x ≡ true)) → List·Memᴰ x (a ∷ l) × (test x ≡ true)
+      by true e (List·Memᴰ·head q) f = (List·Memᴰ·head q, ap test q ∙ e)
+      by true e (List·Memᴰ·tail k) f = let r = f k in (List·Memᴰ·tail (r .0), r .1)
+      by false e k f = let r = f k in (List·Memᴰ·tail (r .0), r .1)
+
+  pub among-those : (l : List A) (x : A) → List·Memᴰ x l → test x ≡ true → List·Memᴰ x (those test l)
+  unfolding those
+  among-those [] x m e = absurd (List·Memᴰ·not-nil m)
+  among-those (a ∷ l) x (List·Memᴰ·head q) e = by (test a) (ap test (sym q) ∙ e)
+    where
+      by : (v : Bool) → v ≡ true → List·Memᴰ x (cond v (a ∷ those test l) (those test l))
+      by true t = List·Memᴰ·head q
+      by false t = absurd (clash t refl)
+  among-those (a ∷ l) x (List·Memᴰ·tail m) e = by (test a) (among-those l x m e)
+    where
+      by : (v : Bool) → List·Memᴰ x (those test l) → List·Memᴰ x (cond v (a ∷ those test l) (those test l))
+      by true k = List·Memᴰ·tail k
+      by false k = k
 
 -- ---- how often a number was sent
 
