@@ -1,42 +1,18 @@
--- Numbers and slots laid over bytes one after the other: what is laid in steps is laid as one list, and how many bytes slots take. Assumes nothing.
-use Prim.Native.Nat.{ℕ, zero, suc, _+_, _*_, _<_}
+-- Numbers and slots laid over bytes one after the other, and how many bytes slots take. Assumes nothing.
+use Prim.Native.Nat.{ℕ, _+_, _*_, _<_}
 use mathlib.Core.Path.{_≡_, refl, sym, ap, _∙_}
 use mathlib.Core.List.{List, [], _∷_, _++_, append-assoc, append-nil}
-use native.Mathlib.Nat.{zero-add, suc-add}
 use native.Mathlib.Numerals.{add-one}
 use native.Mathlib.Omega.{arith}
 use lib.ListN.{length, set, take, length-append}
 use lib.Seq.{take-suc}
 use Rattle.spans.specs.Spans.{splice}
-use Rattle.spans.proofs.Laws.{splice-none}
+use Rattle.spans.proofs.Laws.{Over, laid, set-one}
 use Rattle.rules.specs.declared.Slot.{Slot}
 use Rattle.rules.specs.Slots.{freeSlot}
 use Rattle.rules.specs.Sizes.{slots}
 use Rattle.rules.specs.Table.{Table, slotAt}
 use Rattle.board.specs.Layout.{tableBytes, inBytes, slotBytes, slotsBytes, bytesOf}
-
-splice-on : (xs : List ℕ) (at : ℕ) (ys zs : List ℕ) → splice (splice xs at ys) (at + length ys) zs ≡ splice xs at (ys ++ zs)
-unfolding splice
-splice-on [] at ys zs = refl
-splice-on (x ∷ xs) (suc at) ys zs = rw (suc-add at (length ys)) (ap (λ (r : List ℕ). x ∷ r) (splice-on xs at ys zs))
-splice-on (x ∷ xs) zero [] zs = refl
-splice-on (x ∷ xs) zero (y ∷ ys) zs = rw (zero-add (suc (length ys))) (ap (λ (r : List ℕ). y ∷ r) (rw (zero-add (length ys)) at (splice-on xs zero ys zs)))
-
--- ys are laid over the bytes from place `at`
-pub record Over (was : List ℕ) (at : ℕ) (ys now : List ℕ) : Type 0 where
-  pub is : now ≡ splice was at ys
-
--- k bytes are laid, and zs right after them
-pub laid : {was then now ys : List ℕ} {at : ℕ} (k : ℕ) (zs : List ℕ) → Over was at ys then → now ≡ splice then (at + k) zs → k ≡ length ys
-    → Over was at (ys ++ zs) now
-laid {was} {then} {now} {ys} {at} k zs o q e = record { is = q ∙ rw (o .is, e) (splice-on was at ys zs) }
-
--- one byte stored is one byte laid
-set-one : (xs : List ℕ) (at y : ℕ) → set xs at y ≡ splice xs at (y ∷ [])
-unfolding splice
-set-one [] at y = refl
-set-one (x ∷ xs) (suc at) y = ap (λ (r : List ℕ). x ∷ r) (set-one xs at y)
-set-one (x ∷ xs) zero y = ap (λ (r : List ℕ). y ∷ r) (sym (splice-none xs zero))
 
 -- four bytes stored one after the other are the four laid as one list
 pub set-four : (xs : List ℕ) (at a b c d : ℕ) → set (set (set (set xs at a) (at + 1) b) (at + 2) c) (at + 3) d ≡ splice xs at (a ∷ b ∷ c ∷ d ∷ [])

@@ -1,8 +1,9 @@
--- Laws of splice and part: lengths, the byte at a place, wholes, and a part of a part. Every proof about an image, an undo room or a
--- block leans on these. A law asks that something fits only where it does not hold otherwise. Assumes nothing.
+-- Laws of splice and part: lengths, the byte at a place, wholes, what is laid in steps, and a part of a part. Every proof about an image,
+-- an undo room, a block, a table in bytes or a line leans on these. A law asks that something fits only where it does not hold otherwise.
+-- Assumes nothing.
 use Prim.Native.Nat.{ℕ, zero, suc, _+_, _-_, _≤_, _<_, min}
-use mathlib.Core.Path.{_≡_, refl, sym, ap}
-use mathlib.Core.List.{List, [], _∷_}
+use mathlib.Core.Path.{_≡_, refl, sym, ap, _∙_}
+use mathlib.Core.List.{List, [], _∷_, _++_}
 use native.Mathlib.Nat.{suc-add, zero-add, sub-zero, suc-sub-suc}
 use native.Mathlib.Omega.{arith}
 use lib.ListN.{length, getD, set, take, length-take, length-drop}
@@ -80,6 +81,32 @@ splice-fitting (x ∷ xs) zero (y ∷ ys) zero zero e = refl
 splice-fitting (x ∷ xs) zero (y ∷ ys) zero (suc n) e = absurd (omega arith)
 splice-fitting (x ∷ xs) zero (y ∷ ys) (suc m) zero e = absurd (omega arith)
 splice-fitting (x ∷ xs) zero (y ∷ ys) (suc m) (suc n) e = ap (λ (r : List ℕ). y ∷ r) (splice-fitting xs zero ys m n (omega arith))
+
+-- ---- bytes laid in steps
+
+-- what is laid right after ys is laid with them, as one list
+pub splice-on : (xs : List ℕ) (at : ℕ) (ys zs : List ℕ) → splice (splice xs at ys) (at + length ys) zs ≡ splice xs at (ys ++ zs)
+unfolding splice
+splice-on [] at ys zs = refl
+splice-on (x ∷ xs) (suc at) ys zs = rw (suc-add at (length ys)) (ap (λ (r : List ℕ). x ∷ r) (splice-on xs at ys zs))
+splice-on (x ∷ xs) zero [] zs = refl
+splice-on (x ∷ xs) zero (y ∷ ys) zs = rw (zero-add (suc (length ys))) (ap (λ (r : List ℕ). y ∷ r) (rw (zero-add (length ys)) at (splice-on xs zero ys zs)))
+
+-- one byte stored is one byte laid
+pub set-one : (xs : List ℕ) (at y : ℕ) → set xs at y ≡ splice xs at (y ∷ [])
+unfolding splice
+set-one [] at y = refl
+set-one (x ∷ xs) (suc at) y = ap (λ (r : List ℕ). x ∷ r) (set-one xs at y)
+set-one (x ∷ xs) zero y = ap (λ (r : List ℕ). y ∷ r) (sym (splice-none xs zero))
+
+-- ys are laid over the bytes from place `at`
+pub record Over (was : List ℕ) (at : ℕ) (ys now : List ℕ) : Type 0 where
+  pub is : now ≡ splice was at ys
+
+-- k bytes are laid, and zs right after them
+pub laid : {was then now ys : List ℕ} {at : ℕ} (k : ℕ) (zs : List ℕ) → Over was at ys then → now ≡ splice then (at + k) zs → k ≡ length ys
+    → Over was at (ys ++ zs) now
+laid {was} {then} {now} {ys} {at} k zs o q e = record { is = q ∙ rw (o .is, e) (splice-on was at ys zs) }
 
 -- ---- a part of bytes
 

@@ -4,9 +4,10 @@ use mathlib.Core.Path.{ap, _∙_}
 use mathlib.Core.List.{List}
 use denote.Ref.{now}
 use Rattle.spans.specs.Spans.{splice}
+use Rattle.spans.proofs.Laws.{laid}
 use Rattle.board.specs.Layout.{inBytes}
 use Rattle.board.proofs.Numbers.{bytes-8}
-use Rattle.board.proofs.Laid.{laid, length-four}
+use Rattle.board.proofs.Laid.{length-four}
 use borrow.Author.Needs.{needs}
 use Rattle.board.proofs.to_bytes.put_befores.Statement.{statement}
 use Rattle.board.proofs.to_bytes.put_befores.Tie as tie

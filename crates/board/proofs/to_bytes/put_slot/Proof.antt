@@ -3,9 +3,9 @@ use Prim.Native.Nat.{ℕ, _+_}
 use mathlib.Core.Path.{refl, ap, _∙_}
 use denote.Ref.{now}
 use Rattle.spans.specs.Spans.{splice}
+use Rattle.spans.proofs.Laws.{laid}
 use Rattle.rules.specs.Slots.{roomOf}
 use Rattle.board.specs.Layout.{inBytes, slotBytes}
-use Rattle.board.proofs.Laid.{laid}
 use borrow.Author.Needs.{needs}
 use Rattle.board.proofs.to_bytes.put_slot.Statement.{statement}
 use Rattle.board.proofs.to_bytes.put_slot.Tie as tie

@@ -9,11 +9,11 @@ use denote.Ref.{now}
 use borrow.Author.Needs.{needs}
 use Rattle.rules.specs.Table.{slotAt}
 use Rattle.spans.specs.Spans.{splice}
-use Rattle.spans.proofs.Laws.{length-splice, splice-none, splice-whole}
+use Rattle.spans.proofs.Laws.{length-splice, splice-none, splice-whole, Over, laid}
 use Rattle.cache.specs.Seen.{seen}
 use Rattle.board.specs.Layout.{inBytes, slotBytes, slotsBytes, bytesOf}
 use Rattle.board.proofs.Length.{stored-whole, stored-other}
-use Rattle.board.proofs.Laid.{Over, laid, length-slots, slots-more, length-table}
+use Rattle.board.proofs.Laid.{length-slots, slots-more, length-table}
 use Rattle.board.proofs.to_bytes.store.Statement.{statement}
 use Rattle.board.proofs.to_bytes.store.Tie as tie
 
