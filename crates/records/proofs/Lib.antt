@@ -1,0 +1,5 @@
+-- What is proved of records besides their functions: numbers in bytes, what the writer's functions come to, and that reading back gives the same calls.
+pub mod Numbers
+pub mod Forms
+pub mod Values
+pub mod Recorded

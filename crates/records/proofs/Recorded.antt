@@ -1,0 +1,27 @@
+-- What a function of the writer comes to: refused by the buffer's size, refused as the call does not fit, or its record laid. Assumes nothing.
+use Prim.Native.Nat.{ℕ}
+use mathlib.Core.Path.{_≡_, refl}
+use mathlib.Core.List.{List}
+use native.Mathlib.Omega.{arith}
+use lib.ListN.{length}
+use Rattle.spans.specs.Spans.{splice}
+use Rattle.rules.specs.Refusals.{WrongSize}
+use Rattle.rules.proofs.Cases.{holds, passes, none-holds}
+use Rattle.rules.proofs.Outcomes.{refuses, grants}
+use Rattle.records.specs.declared.types.Recorded.the-variants as recorded
+use Rattle.records.specs.Record.{Call, recordOf, recordBytes, Fits}
+use Rattle.records.specs.Writer.{Recording, recording, recordRefused, recordGranted, Records}
+
+module _ (c : Call) {buffer : List ℕ} where
+  pub wrong-size : WrongSize recordBytes buffer → Records buffer c (recordRefused buffer 1)
+  wrong-size d = refuses 1 (holds d) refl (λ e. absurd (omega arith))
+
+  pub no-fit : length buffer ≡ recordBytes → (Fits c → ⊥) → Records buffer c (recordRefused buffer 16)
+  no-fit s d = refuses 16 (passes (λ w. w s) (holds d)) refl (λ e. absurd (omega arith))
+
+  pub is-recorded : length buffer ≡ recordBytes → Fits c → {n : ℕ} {after : List ℕ} → n ≡ length (recordOf c) → after ≡ splice buffer 0 (recordOf c)
+      → Records buffer c (recording (recorded.Length n) after)
+  is-recorded s f {n} {after} e q = grants _ (passes (λ w. w s) (passes (λ d. d f) none-holds)) refl (whole e q)
+    where
+      whole : {n m : ℕ} {xs ys : List ℕ} → n ≡ m → xs ≡ ys → recording (recorded.Length n) xs ≡ recording (recorded.Length m) ys
+      whole p q = cc

@@ -1,0 +1,4 @@
+-- What a record is, what the writer promises, and what the reader finds.
+pub mod Record
+pub mod Writer
+pub mod Reader
