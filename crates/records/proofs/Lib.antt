@@ -3,3 +3,6 @@ pub mod Numbers
 pub mod Forms
 pub mod Values
 pub mod Recorded
+pub mod Reading
+pub mod ReadBack
+pub mod Beginning

@@ -2,3 +2,4 @@
 pub mod Record
 pub mod Writer
 pub mod Reader
+pub mod RoundTrip

@@ -66,6 +66,10 @@ nextIn bytes =
     (cond (ltb (length bytes) (headBytes + n)) (next.NoneYet (headBytes + n - length bytes))
     (valueIn bytes tag n)))
 
+-- the bytes as one record: what goes on behind it is bad
+unfoldable pub onlyIn : List ℕ → Next
+onlyIn bytes = cond (ltb (headBytes + numberAt bytes 1 2) (length bytes)) next.Bad (nextIn bytes)
+
 -- the call that was found, with its numbers and its data as the bytes have them
 unfoldable pub callIn : List ℕ → Found → Call
 callIn bytes (found.Open n) = opens n

@@ -1,10 +1,9 @@
 // The reader: what lent bytes begin with. It looks at no byte behind the record that it finds.
-ghost use Prim.Native.Nat.{_+_, _*_, _≤_, _<_};
+ghost use Prim.Native.Nat.{_+_, _≤_};
 ghost use mathlib.Core.Path.{_≡_};
 ghost use mathlib.Core.Bool.{true};
-ghost use lib.ListN.{length, take};
-ghost use Rattle.spans.specs.Spans.{splice};
-ghost use Rattle.records.specs.Reader.{formed, createIn, valueIn, nextIn, numbersAt, numbersStart};
+ghost use lib.ListN.{length};
+ghost use Rattle.records.specs.Reader.{formed, createIn, valueIn, nextIn, onlyIn};
 use crate::from_bytes::byte_at;
 use crate::from_bytes::eight_at;
 use crate::from_bytes::four_at;
@@ -68,6 +67,7 @@ fn value_in(bytes: &[u8], tag: u32, n: usize) -> Next
     }
 }
 
+// What the bytes begin with.
 pub fn next_in(bytes: &[u8]) -> Next
     ensures { λ r. ⌜ r ≡ nextIn (now (bytes .entry)) ⌝ }
 {
@@ -84,4 +84,19 @@ pub fn next_in(bytes: &[u8]) -> Next
         return Next::NoneYet(HEAD_BYTES + n - have);
     }
     value_in(bytes, tag, n)
+}
+
+// The bytes as one record: what goes on behind it is bad.
+pub fn only_in(bytes: &[u8]) -> Next
+    ensures { λ r. ⌜ r ≡ onlyIn (now (bytes .entry)) ⌝ }
+{
+    let have = bytes.len();
+    if have < HEAD_BYTES {
+        return Next::NoneYet(HEAD_BYTES - have);
+    }
+    let n = two_at(bytes, 1) as usize;
+    if HEAD_BYTES + n < have {
+        return Next::Bad;
+    }
+    next_in(bytes)
 }
