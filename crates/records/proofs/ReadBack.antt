@@ -82,7 +82,7 @@ module _ (c : Call) (rest : List ℕ) (s : In 2 (length (valueOf c))) where
         head-tag,
         head-size,
         f,
-        le-ltb (length (recordOf c ++ rest)) (3 + length (valueOf c)) (omega (arith, head-long))
+        le-ltb (length (recordOf c ++ rest)) (3 + length (valueOf c)) (omega (arith, head-long)),
       )
 
 -- the record is found, and is that of the call
@@ -149,7 +149,7 @@ module _ (c : Change) (rest : List ℕ) where
       rw (
         stands ∙ sym (append-assoc front (fourEach (c .named)) (c .bytes ++ rest)),
         drop-at (front ++ fourEach (c .named)) (c .bytes ++ rest) (7 + 4 * length (c .named))
-            (length-append front (fourEach (c .named)) ∙ (omega (arith, length-front, length-each (c .named))))
+            (length-append front (fourEach (c .named)) ∙ (omega (arith, length-front, length-each (c .named)))),
       )
       (take-append-seam (c .bytes) rest)
 
@@ -184,7 +184,7 @@ module _ (c : Change) (rest : List ℕ) where
               block-there (f .sizes .block),
               offset-there (f .sizes .offset),
               le-ltb n (4 + 4 * length (c .named)) (omega (arith, length-value c)),
-              left
+              left,
             );
         call = rw (data-there, numbers-there (f .named));
       }

@@ -14,7 +14,7 @@ sub-t5 c = search needs
 
 returns : tie.Need-returns
 unfolding onlyIn nextIn
-returns c = 
+returns c =
     let w = now (c .before .before .args .bytes) in
     rw (le-ltb (3 + numberAt w 1 2) (length w) (omega (arith, c .if1 .taken)), lt-ltb (length w) 3 (c .if1 .taken))
 
@@ -29,7 +29,7 @@ add-if2 c = search needs
 
 returns-2 : tie.Need-returns-2
 unfolding onlyIn
-returns-2 c = 
+returns-2 c =
     let read = c .before in
     let w = now (read .before .before .before .args .bytes) in
     rw (lt-ltb (3 + numberAt w 1 2) (length w) (omega (arith, read .two-at .ensures .0, c .if2 .taken)))
@@ -39,7 +39,7 @@ next-in-requires c κs = search needs
 
 returns-3 : tie.Need-returns-3
 unfolding onlyIn
-returns-3 c = 
+returns-3 c =
     let read = c .before .before in
     let w = now (read .before .before .before .args .bytes) in
     rw (le-ltb (3 + numberAt w 1 2) (length w) (omega (arith, read .two-at .ensures .0, c .before .if2 .left)), c .next-in .ensures)
