@@ -65,7 +65,7 @@ module _ (c : Call) (rest : List ℕ) (s : In 2 (length (valueOf c))) where
   unfolding numberAt recordOf
   head-tag = omega arith
 
-  head-size : numberAt (recordOf c ++ rest) 1 2 ≡ length (valueOf c)
+  pub head-size : numberAt (recordOf c ++ rest) 1 2 ≡ length (valueOf c)
   unfolding numberAt recordOf highFirst
   head-size = omega arith
 
