@@ -1,0 +1,4 @@
+-- Laws of numbers in decimal and of lines.
+pub mod Digits
+pub mod Decimal
+pub mod Examples

@@ -1,0 +1,2 @@
+// How a line of the replay is spelled.
+pub mod types;
