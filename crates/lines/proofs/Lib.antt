@@ -1,4 +1,5 @@
 -- Laws of numbers in decimal and of lines.
 pub mod Digits
 pub mod Decimal
+pub mod Steps
 pub mod Examples

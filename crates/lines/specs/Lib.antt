@@ -1,2 +1,4 @@
 -- How a line of the replay is spelled.
 pub mod Decimal
+pub mod Line
+pub mod Laid
