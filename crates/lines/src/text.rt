@@ -23,6 +23,7 @@ pub fn put(out: &mut [u8], at: usize, text: &[u8]) -> usize
 pub fn put_word(out: &mut [u8], at: usize, word: Word) -> usize
     requires { ⌜ at + 10 ≤ length (now out) ⌝ }
     ensures { λ r. ⌜ Laid (now (out .entry)) at (space ++ wordText word ++ space) (now (out .exit)) r ⌝ }
+    ensures { λ r. ⌜ r ≤ at + 10 ⌝ }
 {
     match word {
         Word::Open => put(out, at, b" open "),
@@ -38,6 +39,7 @@ pub fn put_word(out: &mut [u8], at: usize, word: Word) -> usize
 fn put_hold(out: &mut [u8], at: usize, hold: Hold) -> usize
     requires { ⌜ at + 5 ≤ length (now out) ⌝ }
     ensures { λ r. ⌜ Laid (now (out .entry)) at (space ++ holdText hold) (now (out .exit)) r ⌝ }
+    ensures { λ r. ⌜ r ≤ at + 5 ⌝ }
 {
     match hold {
         Hold::Hard => put(out, at, b" hard"),
@@ -49,6 +51,7 @@ fn put_hold(out: &mut [u8], at: usize, hold: Hold) -> usize
 fn put_count(out: &mut [u8], at: usize, n: u32) -> usize
     requires { ⌜ at + 11 ≤ length (now out) ⌝ }
     ensures { λ r. ⌜ Laid (now (out .entry)) at (space ++ decimal n) (now (out .exit)) r ⌝ }
+    ensures { λ r. ⌜ r ≤ at + 11 ⌝ }
 {
     let after_space = put(out, at, b" ");
     number::put(out, after_space, n as u64)
@@ -58,6 +61,7 @@ fn put_count(out: &mut [u8], at: usize, n: u32) -> usize
 pub fn put_more(out: &mut [u8], at: usize, more: More) -> usize
     requires { ⌜ at + 16 ≤ length (now out) ⌝ }
     ensures { λ r. ⌜ Laid (now (out .entry)) at (moreText more) (now (out .exit)) r ⌝ }
+    ensures { λ r. ⌜ r ≤ at + 16 ⌝ }
 {
     match more {
         More::Nothing => at,

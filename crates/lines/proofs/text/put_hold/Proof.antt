@@ -2,6 +2,7 @@
 use Prim.Native.Nat.{ℕ}
 use mathlib.Core.Path.{sym, ap}
 use mathlib.Core.List.{List, _++_}
+use native.Mathlib.Omega.{arith}
 use borrow.Author.Needs.{needs}
 use Rattle.rules.specs.declared.Hold.{Hold}
 use Rattle.lines.specs.Line.{space, holdText}
@@ -35,7 +36,7 @@ unfolding holdText
 returns c =
     let put = c .before .before in
     let told = put .before .before .before in
-    same-text (put .put .ensures) (sym (ap (λ (h : Hold). space ++ holdText h) (told .enum-told .given .1)))
+    (same-text (put .put .ensures) (sym (ap (λ (h : Hold). space ++ holdText h) (told .enum-told .given .1))), omega (arith, put .put .ensures .next))
 
 same-length-2 : tie.Need-same-length-2
 same-length-2 c = search needs
@@ -45,7 +46,7 @@ unfolding holdText
 returns-2 c =
     let put = c .before .before in
     let told = put .before .before .before in
-    same-text (put .put2 .ensures) (sym (ap (λ (h : Hold). space ++ holdText h) (told .enum-told2 .given .1)))
+    (same-text (put .put2 .ensures) (sym (ap (λ (h : Hold). space ++ holdText h) (told .enum-told2 .given .1))), omega (arith, put .put2 .ensures .next))
 
 pub put-hold-spec : {M : Type 1} → statement M
 put-hold-spec =
