@@ -30,8 +30,7 @@ digits-requires c κs = search needs
 
 loop-holds : tie.Need-loop-holds Inv-loop μ-loop
 loop-holds c =
-    let a = c .before .before .args in
-    (
+    let a = c .before .before .args in (
       omega arith,
       refl,
       ap (λ (ys : List ℕ). splice (now (a .out)) (a .at) ys) (rw (c .digits .ensures) (all-digits (a .n))),

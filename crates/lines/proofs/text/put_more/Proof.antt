@@ -57,8 +57,7 @@ returns-3 c =
     let hold = c .before .before in
     let count = hold .before .before .before .before in
     let told = count .before .before .before in
-    let both = and-then (count .put-count2 .ensures .0) (hold .put-hold .ensures .0) in
-    (
+    let both = and-then (count .put-count2 .ensures .0) (hold .put-hold .ensures .0) in (
       same-text both (sym (ap moreText (told .more2 .given .1) ∙ simp append-assoc)),
       omega (arith, count .put-count2 .ensures .1, hold .put-hold .ensures .1),
     )
