@@ -46,7 +46,8 @@ unfolding decimal digitsIn wordText holdText moreText textOf
 open-granted = refl
 
 -- 2 create 0 1 hard
-create-hard : textOf (line 2 word.Create 0 (more.Patch 1 hold.Hard)) ≡ 50 ∷ 32 ∷ 99 ∷ 114 ∷ 101 ∷ 97 ∷ 116 ∷ 101 ∷ 32 ∷ 48 ∷ 32 ∷ 49 ∷ 32 ∷ 104 ∷ 97 ∷ 114 ∷ 100 ∷ 10 ∷ []
+create-hard : textOf (line 2 word.Create 0 (more.Patch 1 hold.Hard))
+    ≡ 50 ∷ 32 ∷ 99 ∷ 114 ∷ 101 ∷ 97 ∷ 116 ∷ 101 ∷ 32 ∷ 48 ∷ 32 ∷ 49 ∷ 32 ∷ 104 ∷ 97 ∷ 114 ∷ 100 ∷ 10 ∷ []
 unfolding decimal digitsIn wordText holdText moreText textOf
 create-hard = refl
 
@@ -66,12 +67,14 @@ unfolding decimal digitsIn wordText holdText moreText textOf
 bad-record = refl
 
 -- 12 create 0 4 soft
-create-soft : textOf (line 12 word.Create 0 (more.Patch 4 (hold.Soft 0))) ≡ 49 ∷ 50 ∷ 32 ∷ 99 ∷ 114 ∷ 101 ∷ 97 ∷ 116 ∷ 101 ∷ 32 ∷ 48 ∷ 32 ∷ 52 ∷ 32 ∷ 115 ∷ 111 ∷ 102 ∷ 116 ∷ 10 ∷ []
+create-soft : textOf (line 12 word.Create 0 (more.Patch 4 (hold.Soft 0)))
+    ≡ 49 ∷ 50 ∷ 32 ∷ 99 ∷ 114 ∷ 101 ∷ 97 ∷ 116 ∷ 101 ∷ 32 ∷ 48 ∷ 32 ∷ 52 ∷ 32 ∷ 115 ∷ 111 ∷ 102 ∷ 116 ∷ 10 ∷ []
 unfolding decimal digitsIn wordText holdText moreText textOf
 create-soft = refl
 
 -- 10 complete 14
-complete-refused : textOf (line 10 word.Complete 14 more.Nothing) ≡ 49 ∷ 48 ∷ 32 ∷ 99 ∷ 111 ∷ 109 ∷ 112 ∷ 108 ∷ 101 ∷ 116 ∷ 101 ∷ 32 ∷ 49 ∷ 52 ∷ 10 ∷ []
+complete-refused : textOf (line 10 word.Complete 14 more.Nothing)
+    ≡ 49 ∷ 48 ∷ 32 ∷ 99 ∷ 111 ∷ 109 ∷ 112 ∷ 108 ∷ 101 ∷ 116 ∷ 101 ∷ 32 ∷ 49 ∷ 52 ∷ 10 ∷ []
 unfolding decimal digitsIn wordText holdText moreText textOf
 complete-refused = refl
 

@@ -27,7 +27,8 @@ all-of-one n l =
     let e : n % 10 ≡ n = omega arith in
     rw (length-one n l) (ap (λ (d : ℕ). digit d ∷ []) e ∙ sym (one-digit n l))
 
-all-of-more : (n : ℕ) → 10 ≤ n → lastDigits (length (decimal (n / 10))) (n / 10) ≡ decimal (n / 10) → lastDigits (length (decimal n)) n ≡ decimal n
+all-of-more : (n : ℕ) → 10 ≤ n → lastDigits (length (decimal (n / 10))) (n / 10) ≡ decimal (n / 10)
+    → lastDigits (length (decimal n)) n ≡ decimal n
 unfolding lastDigits
 all-of-more n l q = rw (length-more n l, add-one (length (decimal (n / 10))), q) (sym (more-digits n l))
 

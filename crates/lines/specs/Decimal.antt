@@ -11,13 +11,13 @@ use lib.ListN.{length, getD}
 abbrev pub digit : ℕ → ℕ
 digit d = 48 + d
 
--- the digits of n, where `small` says whether it is below 10 and `turns` are enough
+-- the digits of n, where `small` says whether it is below 10; no number but 0 is left when the turns are used up
 unfoldable pub digitsIn : (turns : ℕ) (small : Bool) → ℕ → List ℕ
 digitsIn zero small n = digit n ∷ []
 digitsIn (suc turns) true n = digit n ∷ []
 digitsIn (suc turns) false n = digitsIn turns (ltb (n / 10) 10) (n / 10) ++ (digit (n % 10) ∷ [])
 
--- the digits of n: as many turns as n are never used up
+-- the digits of n, highest first: as many turns as n are enough
 unfoldable pub decimal : ℕ → List ℕ
 decimal n = digitsIn n (ltb n 10) n
 

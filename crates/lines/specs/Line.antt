@@ -1,8 +1,6 @@
 -- A line of the replay as document 02 spells it: "2 create 0 1 hard", as ASCII bytes, with a newline at its end.
-use Prim.Native.Nat.{ℕ, _≤_}
-use mathlib.Core.Path.{_≡_}
+use Prim.Native.Nat.{ℕ}
 use mathlib.Core.List.{List, [], _∷_, _++_}
-use lib.ListN.{length, take}
 use Rattle.rules.specs.declared.Hold.{Hold}
 use Rattle.rules.specs.declared.Hold.the-variants as hold
 use Rattle.lines.specs.declared.types.Word.{Word}
@@ -41,7 +39,3 @@ moreText (more.Patch n h) = space ++ decimal n ++ space ++ holdText h
 -- the place, the word, the answer's number, what is added, and the line's end
 unfoldable pub textOf : Line → List ℕ
 textOf l = decimal (l .place) ++ space ++ wordText (l .word) ++ space ++ decimal (l .number) ++ moreText (l .more) ++ newline
-
--- n counts bytes at the start of xs. The second part follows from the first; with both, `&xs[..n]` asks nothing of whoever writes it.
-abbrev pub Counts : ℕ → List ℕ → Type 0
-Counts n xs = (n ≤ length xs) × (n ≡ length (take n xs))

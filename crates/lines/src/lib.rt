@@ -3,11 +3,11 @@ mod number;
 mod text;
 pub mod types;
 
-ghost use Prim.Native.Nat.{_≤_};
 ghost use mathlib.Core.Path.{_≡_};
 ghost use lib.ListN.{length};
 ghost use Rattle.spans.specs.Spans.{splice};
-ghost use Rattle.lines.specs.Line.{textOf, Counts};
+ghost use Rattle.lines.specs.Line.{textOf};
+ghost use Rattle.lines.specs.Counts.{Counts};
 use types::Line;
 
 // The longest line: two numbers of 20 digits, a word of 8, a number of 10, hard or soft, four spaces

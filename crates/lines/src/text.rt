@@ -1,4 +1,5 @@
-// Words, each laid right after what stands before it.
+// Words, each laid right after what stands before it. Each function promises how far it goes at most, so
+// that its caller knows that the next part finds room.
 ghost use Prim.Native.Nat.{_+_, _≤_};
 ghost use lib.ListN.{length};
 ghost use mathlib.Core.List.{_++_};

@@ -1,5 +1,5 @@
 -- `spell` meets its contract: the parts of a line, each right after the one before, and never more bytes than the buffer has. Assumes nothing.
-use Prim.Native.Nat.{ℕ, _≤_, _<_, _^_}
+use Prim.Native.Nat.{_≤_, _<_, _^_}
 use mathlib.Core.Path.{_≡_, sym}
 use native.Mathlib.Omega.{arith}
 use lib.ListN.{length}

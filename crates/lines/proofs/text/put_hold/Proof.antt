@@ -1,7 +1,6 @@
 -- `text::put_hold` meets its contract: each word is the one that the definition has. Assumes nothing.
-use Prim.Native.Nat.{ℕ}
-use mathlib.Core.Path.{sym, ap}
-use mathlib.Core.List.{List, _++_}
+use mathlib.Core.Path.{_≡_, sym, ap}
+use mathlib.Core.List.{_++_}
 use native.Mathlib.Omega.{arith}
 use borrow.Author.Needs.{needs}
 use Rattle.rules.specs.declared.Hold.{Hold}
@@ -9,6 +8,10 @@ use Rattle.lines.specs.Line.{space, holdText}
 use Rattle.lines.proofs.Steps.{same-text}
 use Rattle.lines.proofs.text.put_hold.Statement.{statement}
 use Rattle.lines.proofs.text.put_hold.Tie as tie
+
+-- what is laid for the word that was told is laid for the one that came
+said : {v h : Hold} → v ≡ h → space ++ holdText h ≡ space ++ holdText v
+said e = sym (ap (λ (h : Hold). space ++ holdText h) e)
 
 enum-told : tie.Need-enum-told
 enum-told c = search needs
@@ -36,7 +39,7 @@ unfolding holdText
 returns c =
     let put = c .before .before in
     let told = put .before .before .before in
-    (same-text (put .put .ensures) (sym (ap (λ (h : Hold). space ++ holdText h) (told .enum-told .given .1))), omega (arith, put .put .ensures .next))
+    (same-text (put .put .ensures) (said (told .enum-told .given .1)), omega (arith, put .put .ensures .next))
 
 same-length-2 : tie.Need-same-length-2
 same-length-2 c = search needs
@@ -46,7 +49,7 @@ unfolding holdText
 returns-2 c =
     let put = c .before .before in
     let told = put .before .before .before in
-    (same-text (put .put2 .ensures) (sym (ap (λ (h : Hold). space ++ holdText h) (told .enum-told2 .given .1))), omega (arith, put .put2 .ensures .next))
+    (same-text (put .put2 .ensures) (said (told .enum-told2 .given .1)), omega (arith, put .put2 .ensures .next))
 
 pub put-hold-spec : {M : Type 1} → statement M
 put-hold-spec =

@@ -1,7 +1,6 @@
 -- `text::put_more` meets its contract: nothing, a number, or a number and hard or soft right after it. Assumes nothing.
 use mathlib.Core.Path.{sym, ap, _∙_}
-use Prim.Native.Nat.{ℕ}
-use mathlib.Core.List.{List, append-assoc}
+use mathlib.Core.List.{append-assoc}
 use native.Mathlib.Omega.{arith}
 use denote.Ref.{now}
 use borrow.Author.Needs.{needs}

@@ -1,7 +1,6 @@
 -- `text::put_word` meets its contract: each word is the one that the definition has. Assumes nothing.
-use Prim.Native.Nat.{ℕ}
-use mathlib.Core.Path.{sym, ap}
-use mathlib.Core.List.{List, _++_}
+use mathlib.Core.Path.{_≡_, sym, ap}
+use mathlib.Core.List.{_++_}
 use native.Mathlib.Omega.{arith}
 use borrow.Author.Needs.{needs}
 use Rattle.lines.specs.declared.types.Word.{Word}
@@ -9,6 +8,10 @@ use Rattle.lines.specs.Line.{space, wordText}
 use Rattle.lines.proofs.Steps.{same-text}
 use Rattle.lines.proofs.text.put_word.Statement.{statement}
 use Rattle.lines.proofs.text.put_word.Tie as tie
+
+-- what is laid for the word that was told is laid for the one that came
+said : {v w : Word} → v ≡ w → space ++ wordText w ++ space ≡ space ++ wordText v ++ space
+said e = sym (ap (λ (w : Word). space ++ wordText w ++ space) e)
 
 enum-told : tie.Need-enum-told
 enum-told c = search needs
@@ -72,7 +75,7 @@ unfolding wordText
 returns c =
     let put = c .before .before in
     let told = put .before .before .before in
-    (same-text (put .put .ensures) (sym (ap (λ (w : Word). space ++ wordText w ++ space) (told .enum-told .given .1))), omega (arith, put .put .ensures .next))
+    (same-text (put .put .ensures) (said (told .enum-told .given .1)), omega (arith, put .put .ensures .next))
 
 same-length-2 : tie.Need-same-length-2
 same-length-2 c = search needs
@@ -82,7 +85,7 @@ unfolding wordText
 returns-2 c =
     let put = c .before .before in
     let told = put .before .before .before in
-    (same-text (put .put2 .ensures) (sym (ap (λ (w : Word). space ++ wordText w ++ space) (told .enum-told2 .given .1))), omega (arith, put .put2 .ensures .next))
+    (same-text (put .put2 .ensures) (said (told .enum-told2 .given .1)), omega (arith, put .put2 .ensures .next))
 
 same-length-3 : tie.Need-same-length-3
 same-length-3 c = search needs
@@ -92,7 +95,7 @@ unfolding wordText
 returns-3 c =
     let put = c .before .before in
     let told = put .before .before .before in
-    (same-text (put .put3 .ensures) (sym (ap (λ (w : Word). space ++ wordText w ++ space) (told .enum-told3 .given .1))), omega (arith, put .put3 .ensures .next))
+    (same-text (put .put3 .ensures) (said (told .enum-told3 .given .1)), omega (arith, put .put3 .ensures .next))
 
 same-length-4 : tie.Need-same-length-4
 same-length-4 c = search needs
@@ -102,7 +105,7 @@ unfolding wordText
 returns-4 c =
     let put = c .before .before in
     let told = put .before .before .before in
-    (same-text (put .put4 .ensures) (sym (ap (λ (w : Word). space ++ wordText w ++ space) (told .enum-told4 .given .1))), omega (arith, put .put4 .ensures .next))
+    (same-text (put .put4 .ensures) (said (told .enum-told4 .given .1)), omega (arith, put .put4 .ensures .next))
 
 same-length-5 : tie.Need-same-length-5
 same-length-5 c = search needs
@@ -112,7 +115,7 @@ unfolding wordText
 returns-5 c =
     let put = c .before .before in
     let told = put .before .before .before in
-    (same-text (put .put5 .ensures) (sym (ap (λ (w : Word). space ++ wordText w ++ space) (told .enum-told5 .given .1))), omega (arith, put .put5 .ensures .next))
+    (same-text (put .put5 .ensures) (said (told .enum-told5 .given .1)), omega (arith, put .put5 .ensures .next))
 
 same-length-6 : tie.Need-same-length-6
 same-length-6 c = search needs
@@ -122,7 +125,7 @@ unfolding wordText
 returns-6 c =
     let put = c .before .before in
     let told = put .before .before .before in
-    (same-text (put .put6 .ensures) (sym (ap (λ (w : Word). space ++ wordText w ++ space) (told .enum-told6 .given .1))), omega (arith, put .put6 .ensures .next))
+    (same-text (put .put6 .ensures) (said (told .enum-told6 .given .1)), omega (arith, put .put6 .ensures .next))
 
 pub put-word-spec : {M : Type 1} → statement M
 put-word-spec =
