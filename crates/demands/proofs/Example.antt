@@ -14,7 +14,7 @@ use Rattle.rules.specs.declared.Setting.the-variants.{Board}
 use Rattle.rules.specs.declared.Hold.the-variants as hold
 use Rattle.rules.specs.Sizes.{imageBytes, blockBytes}
 use Rattle.rules.specs.Settings.{undoBytes, rooms, joins, allSoft}
-use Rattle.rules.specs.Table.{slotsFrom}
+use Rattle.rules.specs.Table.{listFrom}
 use Rattle.rules.specs.Create.{Change, isIn, befores, patch, acceptedSlots, accepted, added, joinedSlots, joined, changed, kept, HoldOf}
 use Rattle.rules.specs.Write.{takenBack, backNumber, backDown, handedOut, sentSlots, sent}
 use Rattle.rules.specs.Rounds.{round, rounds}
@@ -81,20 +81,20 @@ abbrev pub lent : List ℕ
 lent = replicate blockBytes 9
 
 E1 : Made r0 c1 0 hold.Hard
-unfolding slotsFrom inBounds allIssued someBelow softTest allSoft has bit
+unfolding listFrom inBounds allIssued someBelow softTest allSoft has bit
 E1 =
     create-row r0 (just-opened-good 1 (omega arith) (omega arith)) c1 0 hold.Hard refl (omega arith) (none-to-join (r0 .table) c1 refl)
     (lowest-free (r0 .table .slots) 0 (omega arith) refl refl)
     (HoldOf.hard (hard-tested Board (r0 .table .slots) 1 refl refl))
 
 E2 : Made r1 c2 1 hold.Hard
-unfolding slotsFrom accepted acceptedSlots patch befores isIn setBelow inBounds allIssued someBelow softTest allSoft has bit
+unfolding listFrom accepted acceptedSlots patch befores isIn setBelow inBounds allIssued someBelow softTest allSoft has bit
 E2 =
     create-row r1 (E1 .1) c2 1 hold.Hard refl (omega arith) (none-to-join (r1 .table) c2 refl) (lowest-free (r1 .table .slots) 1 (omega arith) refl refl)
     (HoldOf.hard (hard-tested Board (r1 .table .slots) 2 refl refl))
 
 E3 : Made r2 c3 2 (hold.Soft 0)
-unfolding slotsFrom accepted acceptedSlots patch befores isIn setBelow inBounds allIssued someBelow rooms has bit
+unfolding listFrom accepted acceptedSlots patch befores isIn setBelow inBounds allIssued someBelow rooms has bit
 E3 =
     let soft = held-back Board (r2 .table .slots) 1 1 0 (omega arith) (omega arith) refl in
     create-row r2 (E2 .1) c3 2 (hold.Soft 0) refl (omega arith) (λ j. soft (j .would-be-hard))
@@ -102,14 +102,14 @@ E3 =
     (HoldOf.soft soft (record { within = omega arith; holds = room-free (r2 .table .slots) 0 refl; least = λ i l. absurd (omega arith) }))
 
 E4 : Made r3 c4 3 hold.Hard
-unfolding slotsFrom accepted acceptedSlots patch befores isIn setBelow inBounds allIssued someBelow softTest allSoft has bit
+unfolding listFrom accepted acceptedSlots patch befores isIn setBelow inBounds allIssued someBelow softTest allSoft has bit
 E4 =
     create-row r3 (E3 .1) c4 3 hold.Hard refl (omega arith) (none-to-join (r3 .table) c4 refl) (lowest-free (r3 .table .slots) 3 (omega arith) refl refl)
     (HoldOf.hard (hard-tested Board (r3 .table .slots) 3 refl refl))
 
 -- patch 4, in slot 3, is the only one that waits on block 3
 E5 : JoinedIn r4 c5 3
-unfolding slotsFrom accepted acceptedSlots patch befores isIn setBelow inBounds allIssued someBelow softTest allSoft joins has bit
+unfolding listFrom accepted acceptedSlots patch befores isIn setBelow inBounds allIssued someBelow softTest allSoft joins has bit
 E5 =
     join-row r4 (E4 .1) c5 3 refl
     (record { joining = refl; would-be-hard = hard-tested Board (r4 .table .slots) 3 refl refl; some-wait = (3, omega arith, refl) })
@@ -117,21 +117,21 @@ E5 =
 
 -- block 1 sends patch 1 alone and leaves patch 3 behind; that is told to be there, and so block 3 may send patch 4, with both its changes
 E6 : Went r5 lent 1 1
-unfolding slotsFrom accepted acceptedSlots joined joinedSlots added patch befores isIn setBelow someBelow round rounds has bit
+unfolding listFrom accepted acceptedSlots joined joinedSlots added patch befores isIn setBelow someBelow round rounds has bit
 E6 = write-row r5 (E5 .1) 1 lent (omega arith) refl 2 1 refl refl refl 0 refl
 
 E7 : Done r6 1
-unfolding slotsFrom accepted acceptedSlots joined joinedSlots added patch befores isIn setBelow sent sentSlots has bit
+unfolding listFrom accepted acceptedSlots joined joinedSlots added patch befores isIn setBelow sent sentSlots has bit
 E7 = complete-row r6 (E6 .1) 1 0 (omega arith) (omega arith) refl
 
 E8 : Went r7 lent 3 8
-unfolding slotsFrom accepted acceptedSlots joined joinedSlots added patch befores isIn setBelow sent sentSlots
+unfolding listFrom accepted acceptedSlots joined joinedSlots added patch befores isIn setBelow sent sentSlots
     completed completedSlots landedSlots someBelow round rounds has bit
 E8 = write-row r7 (E7 .1) 3 lent (omega arith) refl 1 8 refl refl refl 3 refl
 
 -- and block 2 sends patch 2
 E9 : Went r8 lent 2 2
-unfolding slotsFrom accepted acceptedSlots joined joinedSlots added patch befores isIn setBelow sent sentSlots
+unfolding listFrom accepted acceptedSlots joined joinedSlots added patch befores isIn setBelow sent sentSlots
     completed completedSlots landedSlots someBelow round rounds has bit
 E9 = write-row r8 (E8 .1) 2 lent (omega arith) refl 1 2 refl refl refl 1 refl
 
@@ -208,7 +208,7 @@ both = splice (splice (splice zeros 256 (replicate 4 10)) 773 (replicate 3 30)) 
 
 pub store-is : storeAfterCut one-lands end ≡ both
 unfolding storeAfterCut onStore written those begun history.afterCreate history.afterWrite history.afterComplete rooms
-    slotsFrom accepted acceptedSlots joined joinedSlots added patch befores isIn setBelow changed kept splice handedOut backDown backNumber takenBack
+    listFrom accepted acceptedSlots joined joinedSlots added patch befores isIn setBelow changed kept splice handedOut backDown backNumber takenBack
     sent sentSlots completed completedSlots landedSlots has bit
 store-is = refl
 
@@ -226,11 +226,11 @@ note = record { number = 4; change = c5 }
 
 note-lands : hasLanded one-lands end note ≡ true
 unfolding hasLanded onStore sentIn those begun history.afterCreate history.afterWrite history.afterComplete numbersBelow
-    slotsFrom accepted acceptedSlots joined joinedSlots added patch befores isIn setBelow sent sentSlots completed completedSlots landedSlots has bit
+    listFrom accepted acceptedSlots joined joinedSlots added patch befores isIn setBelow sent sentSlots completed completedSlots landedSlots has bit
 note-lands = refl
 
 note-asks : Follows end note name
-unfolding begun history.afterCreate history.afterWrite history.afterComplete isIn accepted acceptedSlots slotsFrom patch
+unfolding begun history.afterCreate history.afterWrite history.afterComplete isIn accepted acceptedSlots listFrom patch
 note-asks = Follows.straight (record { earlier = Earlier.here (List·Memᴰ·tail (List·Memᴰ·tail (List·Memᴰ·tail (List·Memᴰ·head refl)))); named = refl })
 
 pub name-lands : hasLanded one-lands end name ≡ true
@@ -238,7 +238,7 @@ name-lands = demand-3 happened one-lands .closed note name note-lands note-asks
 
 pub index-does-not : hasLanded one-lands end (record { number = 2; change = c2 }) ≡ false
 unfolding hasLanded onStore sentIn those begun history.afterCreate history.afterWrite history.afterComplete numbersBelow
-    slotsFrom accepted acceptedSlots joined joinedSlots added patch befores isIn setBelow sent sentSlots completed completedSlots landedSlots has bit
+    listFrom accepted acceptedSlots joined joinedSlots added patch befores isIn setBelow sent sentSlots completed completedSlots landedSlots has bit
 index-does-not = refl
 
 -- ---- neither the opening nor the working image

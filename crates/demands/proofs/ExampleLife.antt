@@ -16,7 +16,7 @@ use Rattle.rules.specs.declared.Setting.the-variants.{Board}
 use Rattle.rules.specs.declared.Hold.the-variants as hold
 use Rattle.rules.specs.Sizes.{imageBytes, slots}
 use Rattle.rules.specs.Settings.{undoBytes, allSoft, rooms}
-use Rattle.rules.specs.Table.{slotsFrom, used}
+use Rattle.rules.specs.Table.{listFrom, used}
 use Rattle.rules.specs.Open.{opened}
 use Rattle.rules.specs.Create.{Change, isIn, befores, patch, acceptedSlots, accepted, added, joinedSlots, joined, changed, kept, HoldOf}
 use Rattle.rules.specs.Write.{takenBack, backNumber, backDown, handedOut, sentSlots, sent}
@@ -59,14 +59,14 @@ abbrev r1 : Radio
 r1 = afterCreate (createGranted (r0 .table) (r0 .image) (r0 .undo) c6 0 hold.Hard)
 
 L1 : Made r0 c6 0 hold.Hard
-unfolding slotsFrom inBounds allIssued someBelow softTest allSoft has bit
+unfolding listFrom inBounds allIssued someBelow softTest allSoft has bit
 L1 =
     create-row r0 r0-good c6 0 hold.Hard refl (omega arith) (none-to-join (r0 .table) c6 refl) (lowest-free (r0 .table .slots) 0 (omega arith) refl refl)
     (HoldOf.hard (hard-tested Board (r0 .table .slots) 4 refl refl))
 
 -- it goes at once: it follows nothing
 L2 : Went r1 lent 4 1
-unfolding slotsFrom accepted acceptedSlots patch befores isIn setBelow someBelow round rounds has bit
+unfolding listFrom accepted acceptedSlots patch befores isIn setBelow someBelow round rounds has bit
 L2 = write-row r1 (L1 .1) 4 lent (omega arith) refl 1 1 refl refl refl 0 refl
 
 -- ---- the two power-ups
@@ -110,12 +110,12 @@ landed =
 
 pub landed-are : allLanded life ≡ landed
 unfolding allLanded landedIn hasLanded onStore sentIn those begun history.afterCreate history.afterWrite history.afterComplete numbersBelow
-    slotsFrom accepted acceptedSlots joined joinedSlots added patch befores isIn setBelow sent sentSlots completed completedSlots landedSlots has bit
+    listFrom accepted acceptedSlots joined joinedSlots added patch befores isIn setBelow sent sentSlots completed completedSlots landedSlots has bit
 landed-are = refl
 
 pub store-is : storeLeft life zeros ≡ splice both 1024 (replicate 2 40)
 unfolding storeLeft storeAfterCut onStore written those begun history.afterCreate history.afterWrite rooms
-    slotsFrom accepted acceptedSlots patch befores isIn setBelow changed kept splice handedOut backDown backNumber takenBack sent sentSlots has bit
+    listFrom accepted acceptedSlots patch befores isIn setBelow changed kept splice handedOut backDown backNumber takenBack sent sentSlots has bit
 store-is = refl
 
 -- and that is what question four says of it
@@ -130,7 +130,7 @@ unfolding begun history.afterCreate history.afterWrite history.afterComplete acc
 onward = Onward.then {u = powerUp end all-land} {v = powerUp first.end one-lands} (omega arith) Onward.one
 
 pub note-called-committed : Asks (end .table) 4 ask.Committed
-unfolding begun history.afterCreate history.afterWrite history.afterComplete accepted acceptedSlots slotsFrom patch
+unfolding begun history.afterCreate history.afterWrite history.afterComplete accepted acceptedSlots listFrom patch
 note-called-committed =
     question-four-for-life .names-stay zeros (powerUp end all-land) (powerUp first.end one-lands ∷ []) lived onward (powerUp first.end one-lands)
     (List·Memᴰ·head refl) (record { number = 4; change = c5 }) (List·Memᴰ·head refl) .0
@@ -139,7 +139,7 @@ abbrev r2 : Radio
 r2 = afterWrite (writeGranted (r1 .table) (r1 .image) (r1 .undo) 4 1)
 
 L3 : Done r2 4
-unfolding slotsFrom accepted acceptedSlots patch befores isIn setBelow sent sentSlots has bit
+unfolding listFrom accepted acceptedSlots patch befores isIn setBelow sent sentSlots has bit
 L3 = complete-row r2 (L2 .1) 4 0 (omega arith) (omega arith) refl
 
 abbrev asleep : History
@@ -147,7 +147,7 @@ asleep = history.afterComplete end 4 (completeGranted (r2 .table) 4)
 
 rests : AtRest asleep
 unfolding begun history.afterCreate history.afterWrite history.afterComplete
-    slotsFrom accepted acceptedSlots patch befores isIn setBelow sent sentSlots completed completedSlots landedSlots someBelow has bit
+    listFrom accepted acceptedSlots patch befores isIn setBelow sent sentSlots completed completedSlots landedSlots someBelow has bit
 rests i l = none-at (used (completed (r2 .table) 4 .slots)) slots i refl l
 
 pub nothing-lost : storeAfterCut (λ b. false) asleep ≡ asleep .image

@@ -67,10 +67,19 @@ module _ (w : List ℕ) (b : AllIn 1 w) where
   each-in at (suc n) l zero h = number-in at 4 (omega arith)
   each-in at (suc n) l (suc i) h = each-in (at + 4) n (omega arith) i (omega arith)
 
-length-numbers : (w : List ℕ) (at n : ℕ) → length (numbersAt w at n) ≡ n
+pub length-numbers : (w : List ℕ) (at n : ℕ) → length (numbersAt w at n) ≡ n
 unfolding numbersAt
 length-numbers w at zero = refl
 length-numbers w at (suc n) = ap suc (length-numbers w (at + 4) n)
+
+-- one number more
+pub numbers-more : (w : List ℕ) (at n : ℕ) → numbersAt w at (suc n) ≡ numbersAt w at n ++ (numberAt w (at + 4 * n) 4 ∷ [])
+unfolding numbersAt
+numbers-more w at zero = ap (λ (a : ℕ). numberAt w a 4 ∷ []) (sym (add-zero at))
+numbers-more w at (suc n) =
+    let on : at + 4 + 4 * n ≡ at + 4 * suc n = omega arith in
+    ap (λ (r : List ℕ). numberAt w at 4 ∷ r) (numbers-more w (at + 4) n)
+    ∙ ap (λ (a : ℕ). numberAt w at 4 ∷ (numbersAt w (at + 4) n ++ (numberAt w a 4 ∷ []))) on
 
 -- what a record that is found comes to: its call fits, and tag, length and value of its record are the bytes that stand there
 pub record Taken (w : List ℕ) (f : Found) : Type 0 where

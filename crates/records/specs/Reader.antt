@@ -1,10 +1,10 @@
 -- What the reader finds at the start of lent bytes: a record, none yet, or what no record begins with. It is worked out from the bytes; the theorems of
 -- proofs/ tie it to what a record is.
-use Prim.Native.Nat.{ℕ, zero, suc, _+_, _-_, _*_}
+use Prim.Native.Nat.{ℕ, zero, suc, _+_, _-_, _*_, _/_, min}
 use mathlib.Core.Bool.{Bool, true, false, cond, not, _&&_}
-use mathlib.Core.List.{List, [], _∷_}
+use mathlib.Core.List.{List, [], _∷_, _++_}
 use lib.Dec.{eqb, ltb, leb}
-use lib.ListN.{length, getD}
+use lib.ListN.{length, getD, replicate}
 use Rattle.spans.specs.Spans.{part}
 use Rattle.rules.specs.Create.{changeOf}
 use Rattle.records.specs.declared.types.Head.{Head}
@@ -69,6 +69,15 @@ nextIn bytes =
 -- the bytes as one record: what goes on behind it is bad
 unfoldable pub onlyIn : List ℕ → Next
 onlyIn bytes = cond (ltb (headBytes + numberAt bytes 1 2) (length bytes)) next.Bad (nextIn bytes)
+
+-- the first n numbers of a create, as many as are there and as a record can have, with zeros up to as many as it can
+abbrev pub mostNumbers : ℕ
+mostNumbers = 255
+
+unfoldable pub numbersIn : List ℕ → ℕ → List ℕ
+numbersIn bytes n =
+    let m = min (min n mostNumbers) ((length bytes - numbersStart) / 4) in
+    numbersAt bytes numbersStart m ++ replicate (mostNumbers - m) 0
 
 -- the call that was found, with its numbers and its data as the bytes have them
 unfoldable pub callIn : List ℕ → Found → Call

@@ -1,16 +1,18 @@
 // The reader: what lent bytes begin with. It looks at no byte behind the record that it finds.
-ghost use Prim.Native.Nat.{_+_, _≤_};
+ghost use Prim.Native.Nat.{_+_, _-_, _/_, _≤_, min};
 ghost use mathlib.Core.Path.{_≡_};
 ghost use mathlib.Core.Bool.{true};
 ghost use lib.ListN.{length};
-ghost use Rattle.records.specs.Reader.{formed, createIn, valueIn, nextIn, onlyIn};
+ghost use Rattle.records.specs.Reader.{formed, createIn, valueIn, nextIn, onlyIn, numbersIn, numbersStart, mostNumbers};
 use crate::from_bytes::byte_at;
 use crate::from_bytes::eight_at;
 use crate::from_bytes::four_at;
 use crate::from_bytes::two_at;
 use crate::sizes::CREATE_BYTES;
 use crate::sizes::HEAD_BYTES;
+use crate::sizes::MOST_NUMBERS;
 use crate::sizes::MOST_VALUE;
+use crate::sizes::NUMBERS_START;
 use crate::types::Found;
 use crate::types::Head;
 use crate::types::Next;
@@ -99,4 +101,32 @@ pub fn only_in(bytes: &[u8]) -> Next
         return Next::Bad;
     }
     next_in(bytes)
+}
+
+fn least(a: usize, b: usize) -> usize
+    ensures { λ r. ⌜ r ≡ min a b ⌝ }
+{
+    if a < b { a } else { b }
+}
+
+// How many of n numbers there are in `have` bytes, up to as many as a record can have.
+fn numbers_there(n: usize, have: usize) -> usize
+    ensures { λ r. ⌜ r ≡ min (min n mostNumbers) ((have - numbersStart) / 4) ⌝ }
+{
+    if have < NUMBERS_START {
+        return 0;
+    }
+    least(least(n, MOST_NUMBERS), (have - NUMBERS_START) / 4)
+}
+
+// The first n numbers of a create, for a caller that has found it whole.
+pub fn numbers_in(bytes: &[u8], n: usize) -> [u32; MOST_NUMBERS]
+    ensures { λ r. ⌜ r ≡ numbersIn (now (bytes .entry)) n ⌝ }
+{
+    let mut numbers: [u32; MOST_NUMBERS] = [0; MOST_NUMBERS];
+    let m = numbers_there(n, bytes.len());
+    for i in 0..m {
+        numbers[i] = four_at(bytes, NUMBERS_START + 4 * i);
+    }
+    numbers
 }

@@ -13,7 +13,7 @@ use Rattle.rules.specs.declared.Setting.{Setting}
 use Rattle.rules.specs.declared.Setting.the-variants.{Board}
 use Rattle.rules.specs.Sizes.{lastNumber}
 use Rattle.rules.specs.Settings.{allSoft}
-use Rattle.rules.specs.Table.{Table, slotAt, slotsFrom, Sound, Old, Committed}
+use Rattle.rules.specs.Table.{Table, slotAt, listFrom, Sound, Old, Committed}
 use Rattle.rules.specs.Open.{opened}
 use Rattle.rules.specs.Create.{Change, changeOf, isIn, HoldOf, befores, added, patch, acceptedSlots, accepted}
 use Rattle.rules.specs.Ask.{Asked}
@@ -85,12 +85,12 @@ abbrev namesThree : Change
 namesThree = changeOf 1 0 (65 ∷ []) (3 ∷ [])
 
 pub three-named : Made atSeven namesThree 0 hold.Hard
-unfolding slotsFrom isIn inBounds allIssued someBelow softTest allSoft has bit
+unfolding listFrom isIn inBounds allIssued someBelow softTest allSoft has bit
 three-named =
     create-row atSeven (just-opened-good 7 (omega arith) (omega arith)) namesThree 0 hold.Hard refl (omega arith)
     (none-to-join (atSeven .table) namesThree refl) (lowest-free (atSeven .table .slots) 0 (omega arith) refl refl)
     (HoldOf.hard (hard-tested Board (atSeven .table .slots) 1 refl refl))
 
 pub three-followed : slotAt (accepted (atSeven .table) namesThree 0 hold.Hard .slots) 0 .befores ≡ 0
-unfolding slotsFrom accepted acceptedSlots patch befores isIn setBelow
+unfolding listFrom accepted acceptedSlots patch befores isIn setBelow
 three-followed = refl

@@ -10,7 +10,7 @@ use Rattle.rules.specs.declared.Setting.the-variants.{Board}
 use Rattle.rules.specs.declared.Hold.the-variants as hold
 use Rattle.rules.specs.Sizes.{blockBytes}
 use Rattle.rules.specs.Settings.{rooms, joins, allSoft}
-use Rattle.rules.specs.Table.{slotsFrom}
+use Rattle.rules.specs.Table.{listFrom}
 use Rattle.rules.specs.Create.{Change, isIn, befores, patch, acceptedSlots, accepted, added, joinedSlots, joined, changed, kept, HoldOf}
 use Rattle.rules.specs.Write.{takenBack, backNumber, backDown, handedOut, sentSlots, sent}
 use Rattle.rules.specs.Rounds.{round, rounds}
@@ -44,7 +44,7 @@ abbrev r1 : Radio
 r1 = afterCreate (createGranted (r0 .table) (r0 .image) (r0 .undo) c1 0 hold.Hard)
 
 P1 : Made r0 c1 0 hold.Hard
-unfolding slotsFrom inBounds allIssued someBelow softTest allSoft has bit
+unfolding listFrom inBounds allIssued someBelow softTest allSoft has bit
 P1 =
     create-row r0 (just-opened-good 1 (omega arith) (omega arith)) c1 0 hold.Hard refl (omega arith) (none-to-join (r0 .table) c1 refl)
     (lowest-free (r0 .table .slots) 0 (omega arith) refl refl)
@@ -54,7 +54,7 @@ abbrev r2 : Radio
 r2 = afterCreate (createGranted (r1 .table) (r1 .image) (r1 .undo) c2 1 hold.Hard)
 
 P2 : Made r1 c2 1 hold.Hard
-unfolding slotsFrom accepted acceptedSlots patch befores isIn setBelow inBounds allIssued someBelow softTest allSoft has bit
+unfolding listFrom accepted acceptedSlots patch befores isIn setBelow inBounds allIssued someBelow softTest allSoft has bit
 P2 =
     create-row r1 (P1 .1) c2 1 hold.Hard refl (omega arith) (none-to-join (r1 .table) c2 refl) (lowest-free (r1 .table .slots) 1 (omega arith) refl refl)
     (HoldOf.hard (hard-tested Board (r1 .table .slots) 2 refl refl))
@@ -64,7 +64,7 @@ r3 = afterCreate (createJoined (r2 .table) (r2 .image) (r2 .undo) c3 1)
 
 -- patch 2, in slot 1, is the only one that waits on block 2
 P3 : JoinedIn r2 c3 1
-unfolding slotsFrom accepted acceptedSlots patch befores isIn setBelow inBounds allIssued someBelow softTest allSoft joins has bit
+unfolding listFrom accepted acceptedSlots patch befores isIn setBelow inBounds allIssued someBelow softTest allSoft joins has bit
 P3 =
     join-row r2 (P2 .1) c3 1 refl
     (record { joining = refl; would-be-hard = hard-tested Board (r2 .table .slots) 2 refl refl; some-wait = (1, omega arith, refl) })
@@ -75,7 +75,7 @@ r4 = afterCreate (createGranted (r3 .table) (r3 .image) (r3 .undo) c4 2 (hold.So
 
 -- patch 2, in slot 1 on block 2, follows patch 1, in slot 0, which waits on block 1
 P4 : Made r3 c4 2 (hold.Soft 0)
-unfolding slotsFrom accepted acceptedSlots joined joinedSlots added patch befores isIn setBelow inBounds allIssued someBelow rooms has bit
+unfolding listFrom accepted acceptedSlots joined joinedSlots added patch befores isIn setBelow inBounds allIssued someBelow rooms has bit
 P4 =
     let soft = held-back Board (r3 .table .slots) 1 1 0 (omega arith) (omega arith) refl in
     create-row r3 (P3 .1) c4 2 (hold.Soft 0) refl (omega arith) (λ j. soft (j .would-be-hard))
@@ -83,29 +83,29 @@ P4 =
     (HoldOf.soft soft (record { within = omega arith; holds = room-free (r3 .table .slots) 0 refl; least = λ i l. absurd (omega arith) }))
 
 P5 : Stayed r4 lent 2 13
-unfolding slotsFrom accepted acceptedSlots joined joinedSlots added patch befores isIn setBelow someBelow round rounds has bit
+unfolding listFrom accepted acceptedSlots joined joinedSlots added patch befores isIn setBelow someBelow round rounds has bit
 P5 = write-none r4 (P4 .1) 2 lent (omega arith) refl 2 0 refl refl refl 1 (omega arith) refl refl
 
 P6 : Went r4 lent 1 1
-unfolding slotsFrom accepted acceptedSlots joined joinedSlots added patch befores isIn setBelow someBelow round rounds has bit
+unfolding listFrom accepted acceptedSlots joined joinedSlots added patch befores isIn setBelow someBelow round rounds has bit
 P6 = write-row r4 (P4 .1) 1 lent (omega arith) refl 2 1 refl refl refl 0 refl
 
 abbrev r6 : Radio
 r6 = afterWrite (writeGranted (r4 .table) (r4 .image) (r4 .undo) 1 1)
 
 P7 : Stayed r6 lent 1 11
-unfolding slotsFrom accepted acceptedSlots joined joinedSlots added patch befores isIn setBelow sent sentSlots has bit
+unfolding listFrom accepted acceptedSlots joined joinedSlots added patch befores isIn setBelow sent sentSlots has bit
 P7 = write-flies r6 (P6 .1) 1 lent (omega arith) refl 0 (omega arith) refl
 
 P8a : Done r6 1
-unfolding slotsFrom accepted acceptedSlots joined joinedSlots added patch befores isIn setBelow sent sentSlots has bit
+unfolding listFrom accepted acceptedSlots joined joinedSlots added patch befores isIn setBelow sent sentSlots has bit
 P8a = complete-row r6 (P6 .1) 1 0 (omega arith) (omega arith) refl
 
 abbrev r8a : Radio
 r8a = afterComplete r6 (completeGranted (r6 .table) 1)
 
 P8b : Went r8a lent 2 2
-unfolding slotsFrom accepted acceptedSlots joined joinedSlots added patch befores isIn setBelow sent sentSlots
+unfolding listFrom accepted acceptedSlots joined joinedSlots added patch befores isIn setBelow sent sentSlots
     completed completedSlots landedSlots someBelow round rounds has bit
 P8b = write-row r8a (P8a .1) 2 lent (omega arith) refl 1 2 refl refl refl 1 refl
 
@@ -113,25 +113,25 @@ abbrev r8 : Radio
 r8 = afterWrite (writeGranted (r8a .table) (r8a .image) (r8a .undo) 2 2)
 
 P9 : Stayed r8 lent 1 13
-unfolding slotsFrom accepted acceptedSlots joined joinedSlots added patch befores isIn setBelow sent sentSlots
+unfolding listFrom accepted acceptedSlots joined joinedSlots added patch befores isIn setBelow sent sentSlots
     completed completedSlots landedSlots someBelow round rounds has bit
 P9 = write-none r8 (P8b .1) 1 lent (omega arith) refl 2 0 refl refl refl 2 (omega arith) refl refl
 
 P10a : Done r8 2
-unfolding slotsFrom accepted acceptedSlots joined joinedSlots added patch befores isIn setBelow sent sentSlots completed completedSlots landedSlots has bit
+unfolding listFrom accepted acceptedSlots joined joinedSlots added patch befores isIn setBelow sent sentSlots completed completedSlots landedSlots has bit
 P10a = complete-row r8 (P8b .1) 2 1 (omega arith) (omega arith) refl
 
 abbrev r10 : Radio
 r10 = afterComplete r8 (completeGranted (r8 .table) 2)
 
 P10b : Went r10 lent 1 4
-unfolding slotsFrom accepted acceptedSlots joined joinedSlots added patch befores isIn setBelow sent sentSlots
+unfolding listFrom accepted acceptedSlots joined joinedSlots added patch befores isIn setBelow sent sentSlots
     completed completedSlots landedSlots someBelow round rounds has bit
 P10b = write-row r10 (P10a .1) 1 lent (omega arith) refl 1 4 refl refl refl 2 refl
 
 -- the rows, one after the other; the answers and the bytes handed out compute to those of the table
 pub session : Runs r0 rowsP1toP10
-unfolding rooms rowsP1toP10 slotsFrom accepted acceptedSlots joined joinedSlots added patch befores isIn setBelow sent sentSlots
+unfolding rooms rowsP1toP10 listFrom accepted acceptedSlots joined joinedSlots added patch befores isIn setBelow sent sentSlots
     completed completedSlots landedSlots changed kept splice handedOut backDown backNumber takenBack has bit
 session =
     Runs.creates _ (P1 .0)

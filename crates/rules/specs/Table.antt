@@ -26,14 +26,14 @@ tableOf g first next ss = record { setting = g; first = first; next = next; slot
 abbrev pub slotAt : List Slot → ℕ → Slot
 slotAt ss i = getD ss i freeSlot
 
--- the slots f i, f (i + 1), .., n of them
-unfoldable pub slotsFrom : (ℕ → Slot) → ℕ → ℕ → List Slot
-slotsFrom f i zero = []
-slotsFrom f i (suc n) = f i ∷ slotsFrom f (suc i) n
+-- f i, f (i + 1), .., n of them
+unfoldable pub listFrom : {A : Type 0} → (ℕ → A) → ℕ → ℕ → List A
+listFrom f i zero = []
+listFrom f i (suc n) = f i ∷ listFrom f (suc i) n
 
 -- the 64 slots f 0 to f 63
 abbrev pub slotsBy : (ℕ → Slot) → List Slot
-slotsBy f = slotsFrom f 0 slots
+slotsBy f = listFrom f 0 slots
 
 -- the table with other slots, and with another next number
 abbrev pub withSlots : List Slot → Table → Table

@@ -1,6 +1,6 @@
 -- `Table::empty` meets its contract: 64 free slots. Assumes nothing.
 use borrow.Author.Needs.{needs}
-use Rattle.rules.specs.Table.{slotsFrom}
+use Rattle.rules.specs.Table.{listFrom}
 use Rattle.cache.proofs.types.Table.empty.Statement.{statement}
 use Rattle.cache.proofs.types.Table.empty.Tie as tie
 
@@ -8,7 +8,7 @@ free-requires : tie.Need-free-requires
 free-requires c κs = search needs
 
 returns : tie.Need-returns
-unfolding slotsFrom
+unfolding listFrom
 returns c = rw (c .free .ensures)
 
 pub empty-spec : {M : Type 1} → statement M
