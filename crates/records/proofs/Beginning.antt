@@ -11,6 +11,7 @@ use lib.ListN.{length, length-append, List·getD-append}
 use Rattle.records.specs.declared.types.Next.{Next}
 use Rattle.records.specs.declared.types.Next.the-variants as next
 use Rattle.records.specs.Reader.{numberAt, formed, createIn, valueIn, nextIn}
+use Rattle.records.proofs.Found.{next-by}
 use Rattle.records.proofs.Forms.{Form, open-form, create-form, write-form, complete-form, cut-form, form}
 
 number-front : (w more : List ℕ) (at k : ℕ) → at + k ≤ length w → numberAt (w ++ more) at k ≡ numberAt w at k
@@ -102,30 +103,9 @@ module _ (w more : List ℕ) where
   value-after cut-form et en f l = tt
 
   next-after : After w more (nextIn w)
-  unfolding nextIn
-  next-after = short (ltb (length w) 3) refl
-    where
-      t : ℕ
-      t = numberAt w 0 1
-
-      n : ℕ
-      n = numberAt w 1 2
-
-      all : (v : Bool) → ltb (length w) (3 + n) ≡ v → 3 ≤ length w → formed t n ≡ true
-          → After w more (cond v (next.NoneYet (3 + n - length w)) (valueIn w t n))
-      all true e l f = unfinished-after l f (ltb-true (length w) (3 + n) e)
-      all false e l f = value-after (form t n f) refl refl f (ltb-false (length w) (3 + n) e)
-
-      known : (v : Bool) → formed t n ≡ v → 3 ≤ length w
-          → After w more (cond (not v) next.Bad (cond (ltb (length w) (3 + n)) (next.NoneYet (3 + n - length w)) (valueIn w t n)))
-      known true e l = all (ltb (length w) (3 + n)) refl l e
-      known false e l = unknown-after l e
-
-      short : (v : Bool) → ltb (length w) 3 ≡ v
-          → After w more (cond v (next.NoneYet (3 - length w))
-          (cond (not (formed t n)) next.Bad (cond (ltb (length w) (3 + n)) (next.NoneYet (3 + n - length w)) (valueIn w t n))))
-      short true e = short-after (ltb-true (length w) 3 e)
-      short false e = known (formed t n) refl (ltb-false (length w) 3 e)
+  next-after =
+      next-by w (After w more) short-after unknown-after unfinished-after
+      (λ f l. value-after (form (numberAt w 0 1) (numberAt w 1 2) f) refl refl f l)
 
   pub bad-stays : nextIn w ≡ next.Bad → nextIn (w ++ more) ≡ next.Bad
   unfolding After

@@ -24,6 +24,7 @@ use Rattle.records.specs.Record.{CreateFits, SizesFit}
 use Rattle.records.specs.Reader.{numberAt, numbersAt, formed, createIn, valueIn, nextIn, onlyIn, callIn}
 use Rattle.records.proofs.Numbers.{number-1}
 use Rattle.records.proofs.Values.{length-value, length-each}
+use Rattle.records.proofs.Found.{next-by}
 use Rattle.records.proofs.Forms.{Form, open-form, create-form, write-form, complete-form, cut-form, form}
 
 -- ---- parts of bytes
@@ -49,7 +50,7 @@ module _ (w : List ℕ) (b : AllIn 1 w) where
       rw (high, last, high-back at k (omega arith))
       (sym (take-suc (drop at w) k 0 (omega (arith, length-drop at w)) ∙ ap (λ (z : ℕ). take k (drop at w) ++ (z ∷ [])) (getD-drop at w k 0)))
 
-  number-in : (at k : ℕ) → at + k ≤ length w → In k (numberAt w at k)
+  pub number-in : (at k : ℕ) → at + k ≤ length w → In k (numberAt w at k)
   unfolding numberAt
   number-in at zero l = omega arith
   number-in at (suc k) l = omega (arith, byte-lt (at + k) (omega arith), number-in at k (omega arith))
@@ -170,30 +171,10 @@ module _ (w : List ℕ) (b : AllIn 1 w) where
       taken (found.Cut (numberAt w 3 8)) 5 8 et en l refl (high-back w b 3 8 (omega arith)) (number-in w b 3 8 (omega arith))
 
   next-taken : TakenIn w (nextIn w)
-  unfolding TakenIn nextIn
-  next-taken = short (ltb (length w) 3) refl
-    where
-      t : ℕ
-      t = numberAt w 0 1
-
-      n : ℕ
-      n = numberAt w 1 2
-
-      all : (v : Bool) → ltb (length w) (3 + n) ≡ v → formed t n ≡ true
-          → TakenIn w (cond v (next.NoneYet (3 + n - length w)) (valueIn w t n))
-      all true e f = tt
-      all false e f = value-taken (form t n f) refl refl (ltb-false (length w) (3 + n) e)
-
-      known : (v : Bool) → formed t n ≡ v
-          → TakenIn w (cond (not v) next.Bad (cond (ltb (length w) (3 + n)) (next.NoneYet (3 + n - length w)) (valueIn w t n)))
-      known true e = all (ltb (length w) (3 + n)) refl e
-      known false e = tt
-
-      short : (v : Bool) → ltb (length w) 3 ≡ v
-          → TakenIn w (cond v (next.NoneYet (3 - length w))
-          (cond (not (formed t n)) next.Bad (cond (ltb (length w) (3 + n)) (next.NoneYet (3 + n - length w)) (valueIn w t n))))
-      short true e = tt
-      short false e = known (formed t n) refl
+  unfolding TakenIn
+  next-taken =
+      next-by w (TakenIn w) (λ l. tt) (λ l f. tt) (λ l f h. tt)
+      (λ f l. value-taken (form (numberAt w 0 1) (numberAt w 1 2) f) refl refl l)
 
   -- a record that is found: its call fits, and its bytes stand there
   pub found-taken : (f : Found) → nextIn w ≡ next.Record f → Taken w f

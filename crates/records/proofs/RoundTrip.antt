@@ -20,7 +20,7 @@ use Rattle.records.proofs.Beginning.{bad-stays, none-until}
 
 -- ---- answers of the reader that are not one
 
-isRecord : Next → Bool
+unfoldable pub isRecord : Next → Bool
 isRecord (next.Record f) = true
 isRecord (next.NoneYet k) = false
 isRecord next.Bad = false

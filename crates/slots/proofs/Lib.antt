@@ -1,5 +1,6 @@
 -- What the proofs of the functions share.
 pub mod Gathered
+pub mod Listed
 pub mod OnBlock
 pub mod One
 pub mod Rooms

@@ -21,11 +21,11 @@ pub record GoesOn (r : Run) (input : List ℕ) (c : Call) : Type 0 where
   pub good : Good r bytes c
 
 -- what is printed of the input from where the run is: a line for each record; where the input has not ended and does not go on, one line more, and no other
-pub data Prints (r : Run) (input : List ℕ) : List ℕ → Type 0 where
-  ends : Ended r input → Prints r input []
-  goes-on : {c : Call} {s : Step} {text : List ℕ} (g : GoesOn r input c) → Makes r c s → Prints (s .run) (g .rest) text
+pub data Prints : Run → List ℕ → List ℕ → Type 0 where
+  ends : {r : Run} {input : List ℕ} → Ended r input → Prints r input []
+  goes-on : {r : Run} {input : List ℕ} {c : Call} {s : Step} {text : List ℕ} (g : GoesOn r input c) → Makes r c s → Prints (s .run) (g .rest) text
       → Prints r input (textOf (s .line) ++ text)
-  stops : (Ended r input → ⊥) → ((c : Call) → GoesOn r input c → ⊥) → Prints r input (textOf (afterBad r .line))
+  stops : {r : Run} {input : List ℕ} → (Ended r input → ⊥) → ((c : Call) → GoesOn r input c → ⊥) → Prints r input (textOf (afterBad r .line))
 
 -- what is printed of a whole input
 abbrev pub Printed : List ℕ → List ℕ → Type 0

@@ -1,21 +1,14 @@
 -- `slots::walks::numbers_of` meets its contract. The loop's invariant: the numbers of the slots passed stand at their places. Assumes nothing.
 use Prim.Native.Nat.{ℕ, _+_, _-_, _≤_, _<_}
 use mathlib.Core.Path.{_≡_, refl, _∙_}
-use mathlib.Core.List.{List}
 use native.Mathlib.Omega.{arith}
-use borrow.Author.Count.{below-none, below-more}
-use lib.ListN.{length, getD, set, length-set}
-use lib.Seq.{getD-set-same, getD-set-other}
+use borrow.Author.Count.{below-none}
+use lib.ListN.{length, getD, length-set}
 use Rattle.rules.specs.Table.{slotAt}
+use Rattle.slots.proofs.Listed.{put-below}
 use borrow.Author.Needs.{needs}
 use Rattle.slots.proofs.walks.numbers_of.Statement.{statement}
 use Rattle.slots.proofs.walks.numbers_of.Tie as tie
-
--- one number more is put at its place
-put-below : (ns : List ℕ) (i v : ℕ) (f : ℕ → ℕ) → i < length ns → ((k : ℕ) → k < i → getD ns k 0 ≡ f k) → v ≡ f i
-    → (k : ℕ) → k < i + 1 → getD (set ns i v) k 0 ≡ f k
-put-below ns i v f l passed e =
-    below-more (λ (k : ℕ). getD (set ns i v) k 0 ≡ f k) i (λ k b. getD-set-other ns i k v 0 (λ q. omega arith) ∙ passed k b) (getD-set-same ns i v 0 l ∙ e)
 
 abbrev Inv-loop : tie.InvT-loop
 Inv-loop slots numbers₀ i₀ numbers i = (i ≤ 64) × (length numbers ≡ 64) × ((k : ℕ) → k < i → getD numbers k 0 ≡ slotAt slots k .number)

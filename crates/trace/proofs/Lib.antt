@@ -1,0 +1,2 @@
+-- What the proofs of the functions share, and what is shown of a run.
+pub mod Made
