@@ -1,6 +1,6 @@
 -- READING AND WRITING. What the reader finds is a call that fits, with the bytes of its record; and the record of every call that fits is found, whatever
 -- comes after it. Assumes nothing.
-use Prim.Native.Nat.{ℕ, zero, suc, _+_, _-_, _*_, _/_, _%_, _^_, _≤_, _<_}
+use Prim.Native.Nat.{ℕ, zero, suc, _+_, _-_, _*_, _/_, _%_, _^_, _≤_, _<_, min}
 use mathlib.Core.Path.{_≡_, refl, sym, ap, ap₂, subst, _∙_}
 use mathlib.Core.Bool.{Bool, true, false, cond, not}
 use mathlib.Core.List.{List, [], _∷_, _++_, append-assoc, append-nil}
@@ -8,7 +8,7 @@ use native.Mathlib.Nat.{add-zero, add-assoc}
 use native.Mathlib.Omega.{arith}
 use borrow.Author.Tests.{lt-ltb, le-ltb, le-leb, ltb-false, not-false}
 use lib.Dec.{ltb}
-use lib.ListN.{length, getD, take, drop, length-append, length-drop, List·getD-append, take-append-drop}
+use lib.ListN.{length, getD, take, drop, length-append, length-drop, replicate, length-replicate, List·getD-append, take-append-drop}
 use lib.Seq.{take-suc, take-add, drop-drop, getD-drop, getD-append-add, take-at, drop-at, take-length}
 use Rattle.ground.proofs.Decided.{true-and}
 use Rattle.spans.specs.Spans.{part}
@@ -21,7 +21,7 @@ use Rattle.records.specs.declared.types.Next.{Next}
 use Rattle.records.specs.declared.types.Next.the-variants as next
 use Rattle.records.specs.Record.{Call, opens, creates, writes, completes, cuts, highFirst, fourEach, tagOf, valueOf, recordOf, In, AllIn, Fits}
 use Rattle.records.specs.Record.{CreateFits, SizesFit}
-use Rattle.records.specs.Reader.{numberAt, numbersAt, formed, createIn, valueIn, nextIn, onlyIn, callIn}
+use Rattle.records.specs.Reader.{numberAt, numbersAt, formed, createIn, valueIn, nextIn, numbersIn, callIn}
 use Rattle.records.proofs.Numbers.{number-1}
 use Rattle.records.proofs.Values.{length-value, length-each}
 use Rattle.records.proofs.Found.{next-by}
@@ -81,6 +81,20 @@ numbers-more w at (suc n) =
     let on : at + 4 + 4 * n ≡ at + 4 * suc n = omega arith in
     ap (λ (r : List ℕ). numberAt w at 4 ∷ r) (numbers-more w (at + 4) n)
     ∙ ap (λ (a : ℕ). numberAt w at 4 ∷ (numbersAt w (at + 4) n ++ (numberAt w a 4 ∷ []))) on
+
+-- the numbers of a create, with zeros behind them: how many there are, and the first n
+module _ (w : List ℕ) (n : ℕ) where
+  pub length-in : length (numbersIn w n) ≡ 255
+  unfolding numbersIn
+  length-in =
+      let m = min (min n 255) ((length w - 7) / 4) in
+      length-append (numbersAt w 7 m) (replicate (255 - m) 0) ∙ (omega (arith, length-numbers w 7 m, length-replicate {A = ℕ} (255 - m) 0))
+
+  pub first-in : n ≤ 255 → 7 + 4 * n ≤ length w → take n (numbersIn w n) ≡ numbersAt w 7 n
+  unfolding numbersIn
+  first-in l h =
+      let all : min (min n 255) ((length w - 7) / 4) ≡ n = omega arith in
+      rw all (take-at (numbersAt w 7 n) (replicate (255 - n) 0) n (length-numbers w 7 n))
 
 -- what a record that is found comes to: its call fits, and tag, length and value of its record are the bytes that stand there
 pub record Taken (w : List ℕ) (f : Found) : Type 0 where

@@ -1,27 +1,20 @@
+-- `calls::changes_left` meets its contract. Assumes nothing.
 use borrow.Author.Needs.{needs}
 use Rattle.trace.proofs.calls.changes_left.Statement.{statement}
 use Rattle.trace.proofs.calls.changes_left.Tie as tie
-use Rattle.trace.proofs.calls.changes_left.Reads as reads
-use Rattle.trace.proofs.calls.changes_left.Lts as lts
-use Rattle.trace.proofs.counts.cleared.Reads as cleared-reads
 
--- src/calls.rt:139:28
 enum-told : tie.Need-enum-told
 enum-told c = search needs
 
--- src/calls.rt:139:28
 cleared-requires : tie.Need-cleared-requires
 cleared-requires c κs = search needs
 
--- src/calls.rt:140:31
 enum-told-2 : tie.Need-enum-told-2
 enum-told-2 c = search needs
 
--- src/calls.rt:135:1
 returns : tie.Need-returns
-returns c = ?
+returns c = rw (c .before .enum-told .given .1) (c .cleared .ensures)
 
--- src/calls.rt:135:1
 returns-2 : tie.Need-returns-2
 returns-2 c = search needs
 

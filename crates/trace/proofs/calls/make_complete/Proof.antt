@@ -1,42 +1,37 @@
+-- `calls::make_complete` meets its contract. Assumes nothing.
+use Rattle.trace.proofs.Made.{complete-made}
 use borrow.Author.Needs.{needs}
 use Rattle.trace.proofs.calls.make_complete.Statement.{statement}
 use Rattle.trace.proofs.calls.make_complete.Tie as tie
-use Rattle.trace.proofs.calls.make_complete.Reads as reads
-use Rattle.trace.proofs.calls.make_complete.Lts as lts
-use Rattle.cache.proofs.types.Table.complete.Reads as complete-reads
-use Rattle.slots.proofs.patches.patches_on.Reads as patches-on-reads
-use Rattle.trace.proofs.calls.changes_left.Reads as changes-left-reads
-use Rattle.trace.proofs.calls.now_committed.Reads as now-committed-reads
-use Rattle.trace.proofs.calls.plain_number.Reads as plain-number-reads
-use Rattle.trace.proofs.counts.plus.Reads as plus-reads
 
--- src/calls.rt:112:9
 patches-on-requires : tie.Need-patches-on-requires
 patches-on-requires c κs = search needs
 
--- src/calls.rt:113:9
 complete-requires : tie.Need-complete-requires
 complete-requires c κs = search needs
 
--- src/calls.rt:120:20
 plus-requires : tie.Need-plus-requires
 plus-requires c κs = search needs
 
--- src/calls.rt:122:22
 changes-left-requires : tie.Need-changes-left-requires
 changes-left-requires c κs = search needs
 
--- src/calls.rt:123:24
 now-committed-requires : tie.Need-now-committed-requires
 now-committed-requires c κs = search needs
 
--- src/calls.rt:128:21
 plain-number-requires : tie.Need-plain-number-requires
 plain-number-requires c κs = search needs
 
--- src/calls.rt:107:1
 returns : tie.Need-returns
-returns c = ?
+returns c =
+    let committed = c .before in
+    let left = committed .before in
+    let counted = left .before in
+    let called = counted .before .before .before in
+    let on = called .before in
+    let k = on .before .before .before .args .kept in
+    complete-made k (counted .plus .ensures) (called .complete .result) (called .complete .ensures) (c .plain-number .ensures) (on .patches-on .ensures .in-flight)
+    (left .changes-left .ensures) (committed .now-committed .ensures)
 
 pub make-complete-spec : {M : Type 1} → statement M
 make-complete-spec =

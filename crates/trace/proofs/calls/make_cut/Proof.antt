@@ -1,31 +1,30 @@
+-- `calls::make_cut` meets its contract. Assumes nothing.
+use mathlib.Core.Path.{ap, _∙_}
+use Rattle.trace.specs.Counts.{plus, carried}
+use Rattle.trace.proofs.Made.{cut-made}
 use borrow.Author.Needs.{needs}
 use Rattle.trace.proofs.calls.make_cut.Statement.{statement}
 use Rattle.trace.proofs.calls.make_cut.Tie as tie
-use Rattle.trace.proofs.calls.make_cut.Reads as reads
-use Rattle.trace.proofs.calls.make_cut.Lts as lts
-use Rattle.trace.proofs.counts.carried.Reads as carried-reads
-use Rattle.trace.proofs.counts.cut_landing.Reads as cut-landing-reads
-use Rattle.trace.proofs.counts.plus.Reads as plus-reads
 
--- src/calls.rt:160:35
 cut-landing-requires : tie.Need-cut-landing-requires
 cut-landing-requires c κs = search needs
 
--- src/calls.rt:160:9
 carried-requires : tie.Need-carried-requires
 carried-requires c κs = search needs
 
--- src/calls.rt:164:20
 plus-requires : tie.Need-plus-requires
 plus-requires c κs = search needs
 
--- src/calls.rt:172:21
 plus-requires-2 : tie.Need-plus-requires-2
 plus-requires-2 c κs = search needs
 
--- src/calls.rt:154:1
 returns : tie.Need-returns
-returns c = ?
+returns c =
+    let counted = c .before in
+    let sum = counted .before in
+    let landed = sum .before in
+    let k = landed .before .before .before .before .args .kept in
+    cut-made k (counted .plus .ensures) (c .plus2 .ensures ∙ ap (plus (k .committed)) (sum .carried .ensures ∙ ap (carried (k .changes)) (landed .cut-landing .ensures)))
 
 pub make-cut-spec : {M : Type 1} → statement M
 make-cut-spec =

@@ -1,36 +1,33 @@
+-- `calls::make_write` meets its contract. Assumes nothing.
+use denote.Ref.{now}
+use Rattle.trace.proofs.Made.{write-made}
 use borrow.Author.Needs.{needs}
 use Rattle.trace.proofs.calls.make_write.Statement.{statement}
 use Rattle.trace.proofs.calls.make_write.Tie as tie
-use Rattle.trace.proofs.calls.make_write.Reads as reads
-use Rattle.trace.proofs.calls.make_write.Lts as lts
-use Rattle.cache.proofs.types.Table.write.Reads as write-reads
-use Rattle.trace.proofs.calls.write_more.Reads as write-more-reads
-use Rattle.trace.proofs.calls.write_number.Reads as write-number-reads
-use Rattle.trace.proofs.counts.plus.Reads as plus-reads
 
--- src/calls.rt:86:34
 slice-aggregate-write : tie.Need-slice-aggregate-write
 slice-aggregate-write c = search needs
 
--- src/calls.rt:86:9
 write-requires : tie.Need-write-requires
 write-requires c κs = search needs
 
--- src/calls.rt:93:20
 plus-requires : tie.Need-plus-requires
 plus-requires c κs = search needs
 
--- src/calls.rt:101:21
 write-number-requires : tie.Need-write-number-requires
 write-number-requires c κs = search needs
 
--- src/calls.rt:102:19
 write-more-requires : tie.Need-write-more-requires
 write-more-requires c κs = search needs
 
--- src/calls.rt:81:1
 returns : tie.Need-returns
-returns c = ?
+returns c =
+    let number = c .before in
+    let counted = number .before in
+    let called = counted .before .before .before .before in
+    let a = called .before .before .before .before .before .args in
+    write-made (a .kept) (counted .plus .ensures) (now (a .image)) (now (a .undo)) (called .write .result) (called .write .ensures) (number .write-number .ensures)
+    (c .write-more .ensures)
 
 pub make-write-spec : {M : Type 1} → statement M
 make-write-spec =

@@ -1,6 +1,7 @@
 -- `calls::write_more` meets its contract: as many digits 1 as members. Assumes nothing.
 use Prim.Native.Nat.{ℕ, _^_, _<_}
 use mathlib.Core.Path.{_≡_, sym, ap, _∙_}
+use native.Mathlib.Omega.{arith}
 use lib.Count.{ones}
 use Rattle.masks.specs.Sets.{has, howMany}
 use Rattle.masks.proofs.Laws.{set-has}
@@ -20,7 +21,7 @@ enum-told : tie.Need-enum-told
 enum-told c = search needs
 
 returns : tie.Need-returns
-returns c = rw (c .before .answer .given .1) (patches-of (c .before .answer .given .0 .0) ?)
+returns c = rw (c .before .answer .given .1) (patches-of (c .before .answer .given .0 .0) (omega (arith, c .known-told .given)))
 
 returns-2 : tie.Need-returns-2
 returns-2 c = search needs
