@@ -31,7 +31,7 @@ no-record {w} {x} e f c h =
     let r = back c (h .fits) (h .rest) in
     clash refl (ap isRecord (sym (r .next) ∙ ap nextIn (sym (h .bytes)) ∙ e) ∙ f)
 
-same-found : {f g : Found} → next.Record f ≡ next.Record g → f ≡ g
+pub same-found : {f g : Found} → next.Record f ≡ next.Record g → f ≡ g
 same-found e = cc
 
 -- ---- lists of records

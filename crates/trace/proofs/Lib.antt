@@ -1,2 +1,3 @@
 -- What the proofs of the functions share, and what is shown of a run.
 pub mod Made
+pub mod Taken

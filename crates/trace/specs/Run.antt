@@ -1,7 +1,7 @@
 -- Document 02, request c: a record's call is made on what is kept, by the rules' own definitions; what is kept then, and what its line says.
 use Prim.Native.Nat.{ℕ}
 use mathlib.Core.Path.{_≡_}
-use mathlib.Core.Bool.{Bool, true, false}
+use mathlib.Core.Bool.{Bool, true, false, not}
 use mathlib.Core.List.{List}
 use lib.ListN.{length, replicate}
 use Rattle.masks.specs.Sets.{has, howMany}
@@ -54,17 +54,16 @@ begun = record {
 }
 
 -- open comes first and is not given again; nothing comes after a cut
+abbrev pub isOpen : Call → Bool
+isOpen (opens n) = true
+isOpen (creates c) = false
+isOpen (writes b) = false
+isOpen (completes b) = false
+isOpen (cuts s) = false
+
 abbrev pub inOrder : Phase → Call → Bool
-inOrder phase.Unopened (opens n) = true
-inOrder phase.Unopened (creates c) = false
-inOrder phase.Unopened (writes b) = false
-inOrder phase.Unopened (completes b) = false
-inOrder phase.Unopened (cuts s) = false
-inOrder phase.Opened (opens n) = false
-inOrder phase.Opened (creates c) = true
-inOrder phase.Opened (writes b) = true
-inOrder phase.Opened (completes b) = true
-inOrder phase.Opened (cuts s) = true
+inOrder phase.Unopened c = isOpen c
+inOrder phase.Opened c = not (isOpen c)
 inOrder phase.Over c = false
 
 -- a record's call made: what is kept from then on, and its line

@@ -11,15 +11,17 @@ use Rattle.rules.specs.Calls.{Creates}
 use Rattle.cache.specs.declared.types.Created.{Created}
 use Rattle.cache.specs.Seen.{seen, creation}
 use Rattle.records.specs.declared.types.Head.{Head}
+use Rattle.records.specs.declared.types.Found.{Found}
 use Rattle.records.specs.Record.{Call}
-use Rattle.records.specs.Reader.{numbersAt, numbersStart, dataStart}
+use Rattle.records.specs.Reader.{numbersAt, numbersStart, dataStart, callIn}
 use Rattle.lines.specs.Line.{textOf}
 use Rattle.lines.specs.declared.types.Word.{Word}
 use Rattle.lines.specs.declared.types.Word.the-variants as word
+use Rattle.trace.specs.declared.types.Phase.{Phase}
 use Rattle.trace.specs.declared.types.Kept.{Kept}
 use Rattle.trace.specs.declared.types.Made.{Made}
 use Rattle.trace.specs.declared.types.Stepped.{Stepped}
-use Rattle.trace.specs.Run.{Run, Step, Makes, Steps}
+use Rattle.trace.specs.Run.{Run, Step, Makes, Steps, isOpen, inOrder, afterBad}
 
 -- with the working image and the undo area
 abbrev pub runOf : Kept → List ℕ → List ℕ → Run
@@ -46,6 +48,18 @@ CreatedBy t image undo bytes h r image′ undo′ =
     Creates t image undo
     (changeOf (h .block) (h .offset) (part bytes (dataStart (h .names)) (h .bytes)) (numbersAt bytes numbersStart (h .names)))
     (creation r image′ undo′)
+
+-- whether what was found is an open, whatever numbers and data its bytes have
+abbrev pub IsOpen : Found → Bool → Type 0
+IsOpen f b = (bytes : List ℕ) → b ≡ isOpen (callIn bytes f)
+
+-- whether what was found comes in its order, whatever numbers and data its bytes have
+abbrev pub InOrder : Phase → Found → Bool → Type 0
+InOrder p f b = (bytes : List ℕ) → b ≡ inOrder p (callIn bytes f)
+
+-- the line of a bad record, whatever the image and the undo area hold
+abbrev pub MadeBad : Kept → Made → Type 0
+MadeBad k m = (image undo : List ℕ) → stepOf m image undo ≡ afterBad (runOf k image undo)
 
 -- whether a line is that of a bad record
 abbrev pub isBad : Word → Bool
