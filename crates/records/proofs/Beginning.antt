@@ -6,9 +6,8 @@ use mathlib.Core.Bool.{Bool, true, false, cond, not}
 use mathlib.Core.List.{List, _++_}
 use native.Mathlib.Omega.{arith}
 use borrow.Author.Tests.{lt-ltb, le-ltb, ltb-true, ltb-false}
-use lib.Dec.{eqb, ltb}
+use lib.Dec.{ltb}
 use lib.ListN.{length, length-append, List·getD-append}
-use Rattle.records.specs.declared.types.Found.the-variants as found
 use Rattle.records.specs.declared.types.Next.{Next}
 use Rattle.records.specs.declared.types.Next.the-variants as next
 use Rattle.records.specs.Reader.{numberAt, formed, createIn, valueIn, nextIn}
@@ -74,22 +73,65 @@ module _ (w more : List ℕ) where
       head-size l,
       f,
       lt-ltb (length (w ++ more)) (3 + numberAt w 1 2) (omega (arith, both)),
-      both
+      both,
     ) (as-many (omega arith)),
   )
 
-  -- a value that is all there is bad only where a create's numbers run past its end
+  -- a value that is all there is read the same
+  whole-after : {t n : ℕ} → numberAt w 0 1 ≡ t → numberAt w 1 2 ≡ n → formed t n ≡ true → 3 + n ≤ length w → nextIn (w ++ more) ≡ valueIn (w ++ more) t n
+  unfolding nextIn
+  whole-after {t} {n} et en f l =
+      let l3 : 3 ≤ length w = omega arith in
+      rw (head-there l3, head-tag l3 ∙ et, head-size l3 ∙ en, f, le-ltb (length (w ++ more)) (3 + n) (omega (arith, both)))
+
+  -- and is bad only where a create's numbers run past its end
+  create-after : (n : ℕ) → numberAt w 0 1 ≡ 2 → numberAt w 1 2 ≡ n → formed 2 n ≡ true → 4 ≤ n → 3 + n ≤ length w → After w more (createIn w n)
+  unfolding After createIn valueIn
+  create-after n et en f k l = go (ltb n (4 + 4 * numberAt w 6 1)) refl
+    where
+      go : (v : Bool) → ltb n (4 + 4 * numberAt w 6 1) ≡ v → After w more (createIn w n)
+      go true e = rw e (whole-after et en f l ∙ rw (number-front w more 6 1 (omega arith), e))
+      go false e = rw e tt
+
   value-after : {t n : ℕ} → Form t n → numberAt w 0 1 ≡ t → numberAt w 1 2 ≡ n → formed t n ≡ true → 3 + n ≤ length w → After w more (valueIn w t n)
   unfolding After valueIn
   value-after open-form et en f l = tt
-  value-after {n = n} (create-form k h) et en f l = create-after (ltb n (4 + 4 * numberAt w 6 1)) refl
-    where
-      next-create : nextIn (w ++ more) ≡ createIn (w ++ more) n
-      next-create = ?
-
-      create-after : (v : Bool) → ltb n (4 + 4 * numberAt w 6 1) ≡ v → After w more (createIn w n)
-      create-after true e = ?
-      create-after false e = ?
+  value-after {n = n} (create-form k h) et en f l = create-after n et en f k l
   value-after write-form et en f l = tt
   value-after complete-form et en f l = tt
   value-after cut-form et en f l = tt
+
+  next-after : After w more (nextIn w)
+  unfolding nextIn
+  next-after = short (ltb (length w) 3) refl
+    where
+      t : ℕ
+      t = numberAt w 0 1
+
+      n : ℕ
+      n = numberAt w 1 2
+
+      all : (v : Bool) → ltb (length w) (3 + n) ≡ v → 3 ≤ length w → formed t n ≡ true
+          → After w more (cond v (next.NoneYet (3 + n - length w)) (valueIn w t n))
+      all true e l f = unfinished-after l f (ltb-true (length w) (3 + n) e)
+      all false e l f = value-after (form t n f) refl refl f (ltb-false (length w) (3 + n) e)
+
+      known : (v : Bool) → formed t n ≡ v → 3 ≤ length w
+          → After w more (cond (not v) next.Bad (cond (ltb (length w) (3 + n)) (next.NoneYet (3 + n - length w)) (valueIn w t n)))
+      known true e l = all (ltb (length w) (3 + n)) refl l e
+      known false e l = unknown-after l e
+
+      short : (v : Bool) → ltb (length w) 3 ≡ v
+          → After w more (cond v (next.NoneYet (3 - length w))
+          (cond (not (formed t n)) next.Bad (cond (ltb (length w) (3 + n)) (next.NoneYet (3 + n - length w)) (valueIn w t n))))
+      short true e = short-after (ltb-true (length w) 3 e)
+      short false e = known (formed t n) refl (ltb-false (length w) 3 e)
+
+  pub bad-stays : nextIn w ≡ next.Bad → nextIn (w ++ more) ≡ next.Bad
+  unfolding After
+  bad-stays e = subst (After w more) e next-after
+
+  pub none-until : {k : ℕ} → nextIn w ≡ next.NoneYet k
+      → (1 ≤ k) × (length w + k ≤ 1203) × (length more < k → nextIn (w ++ more) ≡ next.NoneYet (k - length more))
+  unfolding After
+  none-until e = subst (After w more) e next-after
