@@ -6,3 +6,4 @@ pub mod Recorded
 pub mod Reading
 pub mod ReadBack
 pub mod Beginning
+pub mod OneAnswer
