@@ -21,7 +21,7 @@ static uint8_t block[BOARD_BLOCK];
 
 static FILE *trace, *answers; /* null: not kept */
 static uint8_t record[BOARD_RECORD_BYTES];
-static uint32_t length, place;            /* of the last record */
+static uint32_t length, place;           /* of the last record */
 static uint32_t made[CHANGES], made_len; /* the number of each change that was granted */
 
 /* Appends the record just made to the trace, and what the radio got for the call to the answers. */
