@@ -1,4 +1,5 @@
-/* The write-before cache for C: six functions over plain numbers and lent bytes, proved in crates/board.
+/* The write-before cache for C: six functions over plain numbers and lent bytes, and five that record their calls, proved in
+ * crates/board.
  *
  * The radio makes changes, each to one block of 256 bytes and each naming earlier changes that must reach the store first. The
  * cache says what may be sent, and with which bytes. docs/RULES.md has the rules and the words.
@@ -38,6 +39,18 @@
  *   (copy them out first), and `named` and `number` that are the same word (let the answer go into another).
  *   No call keeps a pointer or allocates, and none calls anything but C's memcpy.
  *
+ * RECORDING. A trace is the calls of one power-up, for a bench to run again: their records, end to end. For each call of
+ * board_open, board_create, board_write and board_complete, in the order in which you make them, call the board_record_ function
+ * with the same arguments and append the first `length` bytes of its buffer to the trace. One buffer of BOARD_RECORD_BYTES serves
+ * for all records; its bytes behind a record stay as they were. No table is lent, and nothing else changes.
+ * - A record says what was asked, not what was answered: record a refused call like a granted one. Ask and count are not recorded.
+ * - board_record_open comes first, and once: the next power-up is another trace.
+ * - board_record_cut comes last: the supply was cut, or the radio sleeps. Bit b of `landed` is set when block b's write in flight
+ *   landed; the bits of other blocks count for nothing. Who was cut appends it at the next start-up, or leaves it to the bench.
+ * - Refused, 1: the buffer has not BOARD_RECORD_BYTES. Refused, 16: the call fits no record, as its block is above 255, its offset
+ *   above 65,535, or it has more than 255 numbers or, with 4 bytes for each number, more than 1,196 bytes of numbers and data.
+ *   Leave such a call out: the cache refuses it too, and nothing changes.
+ *
  * THE TABLE is BOARD_TABLE bytes that you keep. Every number in it is little-endian:
  *   0 first (4 bytes), 4 next (4), then 64 slots of 32 bytes, slot i at 8 + 32 * i:
  *   0 state (4): 0 free, 1 waiting hard, 2 waiting soft, 3 in flight hard, 4 in flight soft
@@ -60,6 +73,8 @@ extern "C" {
 #define BOARD_UNDO 1024u   /* the undo area: 16 rooms of 64 bytes */
 #define BOARD_BLOCK 256u   /* the block handed out */
 
+#define BOARD_RECORD_BYTES 1203u /* the buffer for a record */
+
 /* The refusal numbers. Each call answers the first of its own that holds, in rising order. */
 enum board_refusal {
     BOARD_GRANTED = 0,
@@ -77,7 +92,8 @@ enum board_refusal {
     BOARD_NONE_WAITS = 12,
     BOARD_NONE_MAY_GO = 13,
     BOARD_NONE_IN_FLIGHT = 14,
-    BOARD_FIRST_NUMBER = 15
+    BOARD_FIRST_NUMBER = 15,
+    BOARD_NO_RECORD = 16
 };
 
 /* A refusal number in words. */
@@ -100,6 +116,7 @@ static inline const char *board_words(uint32_t refusal)
         "some wait, and none may go",
         "no patch of the block is in flight",
         "first number 0 or above 1,000,000,000",
+        "the call fits no record",
     };
     return refusal < sizeof words / sizeof words[0] ? words[refusal] : "no refusal has this number";
 }
@@ -134,6 +151,14 @@ uint32_t board_ask(const uint8_t *table, size_t table_len, uint32_t asked, uint3
 
 /* count: how many patches of the block wait; the changes of one number are one patch. Tests 2, 3. */
 uint32_t board_count(const uint8_t *table, size_t table_len, uint32_t block, uint32_t *count);
+
+/* RECORDING: a call's record, in `record`. length: how many bytes it has. Each tests 1, then 16. */
+uint32_t board_record_open(uint8_t *record, size_t record_len, uint32_t first, uint32_t *length);
+uint32_t board_record_create(uint8_t *record, size_t record_len, uint32_t block, uint32_t offset, const uint8_t *bytes,
+                             size_t bytes_len, const uint32_t *named, size_t named_len, uint32_t *length);
+uint32_t board_record_write(uint8_t *record, size_t record_len, uint32_t block, uint32_t *length);
+uint32_t board_record_complete(uint8_t *record, size_t record_len, uint32_t block, uint32_t *length);
+uint32_t board_record_cut(uint8_t *record, size_t record_len, uint64_t landed, uint32_t *length);
 
 #ifdef __cplusplus
 }

@@ -6,6 +6,7 @@ pub const TABLE: usize = 2056;
 pub const IMAGE: usize = 16384;
 pub const UNDO: usize = 1024;
 pub const BLOCK: usize = 256;
+pub const RECORD: usize = 1203;
 
 /// Kept by the caller, over sleep together with the image and the undo area; board.h has the layout.
 pub type Table = [u8; TABLE];
@@ -29,6 +30,7 @@ pub fn words(refusal: u32) -> &'static str {
         13 => "some wait, and none may go",
         14 => "no patch of the block is in flight",
         15 => "first number 0 or above 1,000,000,000",
+        16 => "the call fits no record",
         _ => "no refusal has this number",
     }
 }
@@ -46,7 +48,7 @@ pub enum State {
     Committed,
 }
 
-/// The six functions as board.h has them, for buffers that are no arrays of the exact size: those are refused by number.
+/// The functions as board.h has them, for buffers that are no arrays of the exact size: those are refused by number.
 /// Nothing checks these declarations against the archive; the bench of the repository calls through them.
 pub mod raw {
     unsafe extern "C" {
@@ -63,10 +65,19 @@ pub mod raw {
         pub fn board_complete(table: *mut u8, table_len: usize, block: u32) -> u32;
         pub fn board_ask(table: *const u8, table_len: usize, asked: u32, state: *mut u32) -> u32;
         pub fn board_count(table: *const u8, table_len: usize, block: u32, count: *mut u32) -> u32;
+        pub fn board_record_open(record: *mut u8, record_len: usize, first: u32, length: *mut u32) -> u32;
+        pub fn board_record_create(
+            record: *mut u8, record_len: usize, block: u32, offset: u32, bytes: *const u8, bytes_len: usize,
+            named: *const u32, named_len: usize, length: *mut u32,
+        ) -> u32;
+        pub fn board_record_write(record: *mut u8, record_len: usize, block: u32, length: *mut u32) -> u32;
+        pub fn board_record_complete(record: *mut u8, record_len: usize, block: u32, length: *mut u32) -> u32;
+        pub fn board_record_cut(record: *mut u8, record_len: usize, landed: u64, length: *mut u32) -> u32;
     }
 }
 
 use raw::{board_ask, board_complete, board_count, board_create, board_open, board_write};
+use raw::{board_record_complete, board_record_create, board_record_cut, board_record_open, board_record_write};
 
 fn granted<T>(refusal: u32, answer: T) -> Result<T, u32> {
     if refusal == 0 { Ok(answer) } else { Err(refusal) }
@@ -129,4 +140,54 @@ pub fn count(table: &Table, block: u32) -> Result<u32, u32> {
     let mut count = 0;
     let refusal = unsafe { board_count(table.as_ptr(), TABLE, block, &mut count) };
     granted(refusal, count)
+}
+
+/// What a record is made in; one serves for all ("recording" in board.h).
+pub type Record = [u8; RECORD];
+
+/// The bytes to append to the trace: the first of the buffer, as many as the library said.
+fn recorded(record: &Record, refusal: u32, length: u32) -> Result<&[u8], u32> {
+    granted(refusal, &record[..length as usize])
+}
+
+/// The record of `open`. Never refused.
+pub fn record_open(record: &mut Record, first: u32) -> Result<&[u8], u32> {
+    let mut length = 0;
+    let refusal = unsafe { board_record_open(record.as_mut_ptr(), RECORD, first, &mut length) };
+    recorded(record, refusal, length)
+}
+
+/// The record of `create`. Refused 16.
+pub fn record_create<'a>(
+    record: &'a mut Record, block: u32, offset: u32, bytes: &[u8], named: &[u32],
+) -> Result<&'a [u8], u32> {
+    let mut length = 0;
+    let refusal = unsafe {
+        board_record_create(
+            record.as_mut_ptr(), RECORD, block, offset, bytes.as_ptr(), bytes.len(), named.as_ptr(), named.len(), &mut length,
+        )
+    };
+    recorded(record, refusal, length)
+}
+
+/// The record of `write`. Refused 16.
+pub fn record_write(record: &mut Record, block: u32) -> Result<&[u8], u32> {
+    let mut length = 0;
+    let refusal = unsafe { board_record_write(record.as_mut_ptr(), RECORD, block, &mut length) };
+    recorded(record, refusal, length)
+}
+
+/// The record of `complete`. Refused 16.
+pub fn record_complete(record: &mut Record, block: u32) -> Result<&[u8], u32> {
+    let mut length = 0;
+    let refusal = unsafe { board_record_complete(record.as_mut_ptr(), RECORD, block, &mut length) };
+    recorded(record, refusal, length)
+}
+
+/// The record that ends a trace: the supply was cut, and bit b of `landed` is set when block b's write in flight landed. Never
+/// refused.
+pub fn record_cut(record: &mut Record, landed: u64) -> Result<&[u8], u32> {
+    let mut length = 0;
+    let refusal = unsafe { board_record_cut(record.as_mut_ptr(), RECORD, landed, &mut length) };
+    recorded(record, refusal, length)
 }

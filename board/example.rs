@@ -1,19 +1,27 @@
 //! The session of example.c through the Rust wrapper. The borrow checker keeps the lent arrays apart; the program prints the
-//! same lines, and board/build holds it to that.
+//! same lines and, called with a file name, keeps the same trace there. board/build holds it to both.
 
 mod board;
 
-use board::{BLOCK, Hold, IMAGE, TABLE, Table, UNDO};
+use board::{BLOCK, Hold, IMAGE, RECORD, Record, TABLE, Table, UNDO};
 
 struct Radio {
     table: Table, // in memory that survives sleep
     image: [u8; IMAGE],
     undo: [u8; UNDO],
+    record: Record,
+    trace: Vec<u8>,
 }
 
 impl Radio {
+    fn open(&mut self, first: u32) -> Result<(), u32> {
+        self.trace.extend(board::record_open(&mut self.record, first)?);
+        board::open(&mut self.table, first)
+    }
+
     /// Makes a change and says its number, 0 where it is refused.
-    fn change(&mut self, at: u32, offset: u32, bytes: &[u8], after: &[u32]) -> u32 {
+    fn change(&mut self, at: u32, offset: u32, bytes: &[u8], after: &[u32]) -> Result<u32, u32> {
+        self.trace.extend(board::record_create(&mut self.record, at, offset, bytes, after)?);
         let answer = board::create(&mut self.table, &mut self.image, &mut self.undo, at, offset, bytes, after);
         let (refusal, number, hold) = match answer {
             Ok((number, Hold::Hard)) => (0, number, 1),
@@ -21,11 +29,12 @@ impl Radio {
             Err(refusal) => (refusal, 0, 0),
         };
         println!("create on block {at}: {}, number {number}, hold {hold}", board::words(refusal));
-        number
+        Ok(number)
     }
 
     /// Sends what may go of a block; the line printed stands for the radio's own driver.
-    fn flush(&mut self, from: u32) {
+    fn flush(&mut self, from: u32) -> Result<(), u32> {
+        self.trace.extend(board::record_write(&mut self.record, from)?);
         let mut bytes = [0; BLOCK];
         match board::write(&mut self.table, &self.image, &self.undo, &mut bytes, from) {
             Ok(set) => {
@@ -34,20 +43,33 @@ impl Radio {
             }
             Err(refusal) => println!("write of block {from}: {}", board::words(refusal)),
         }
+        Ok(())
+    }
+
+    /// The driver says that a block has landed.
+    fn complete(&mut self, landed: u32) -> Result<(), u32> {
+        self.trace.extend(board::record_complete(&mut self.record, landed)?);
+        board::complete(&mut self.table, landed)
+    }
+
+    /// The trace ends: nothing is in flight. It is handed out, and the next one begins.
+    fn cut(&mut self) -> Result<Vec<u8>, u32> {
+        self.trace.extend(board::record_cut(&mut self.record, 0)?);
+        Ok(std::mem::take(&mut self.trace))
     }
 }
 
 /// The station is stored; gives the number of its entry.
 fn store(radio: &mut Radio) -> Result<u32, u32> {
-    let name = radio.change(1, 0, b"KRTL", &[]);
-    let entry = radio.change(2, 0, b"\x01", &[name]);
-    radio.change(2, 1, b"\x63", &[]); // the preset's key: joins the entry, and has its number
-    radio.flush(2); // 13: the entry follows the name, which has not landed
-    radio.flush(1);
-    radio.flush(2); // 13 still: the name is only in flight
-    board::complete(&mut radio.table, 1)?; // the driver says that block 1 has landed
-    radio.flush(2);
-    board::complete(&mut radio.table, 2)?;
+    let name = radio.change(1, 0, b"KRTL", &[])?;
+    let entry = radio.change(2, 0, b"\x01", &[name])?;
+    radio.change(2, 1, b"\x63", &[])?; // the preset's key: joins the entry, and has its number
+    radio.flush(2)?; // 13: the entry follows the name, which has not landed
+    radio.flush(1)?;
+    radio.flush(2)?; // 13 still: the name is only in flight
+    radio.complete(1)?;
+    radio.flush(2)?;
+    radio.complete(2)?;
     Ok(entry)
 }
 
@@ -59,23 +81,30 @@ fn say(radio: &Radio, entry: u32) -> Result<(), u32> {
     Ok(())
 }
 
-fn session(radio: &mut Radio) -> Result<(), u32> {
-    board::open(&mut radio.table, 1)?;
+/// Gives the trace of the first power-up.
+fn session(radio: &mut Radio) -> Result<Vec<u8>, u32> {
+    radio.open(1)?;
     let entry = store(radio)?;
     say(radio, entry)?;
+    let trace = radio.cut()?;
     // At rest: the radio may sleep. It keeps its next number, and at start-up fills the image from the store.
     let next = board::next(&radio.table);
-    board::open(&mut radio.table, next)?;
+    radio.open(next)?;
     say(radio, entry)?;
-    radio.change(3, 0, b"NEWS", &[entry]); // the menu's old number is good, and the change follows nothing
-    radio.flush(3);
-    Ok(())
+    radio.change(3, 0, b"NEWS", &[entry])?; // the menu's old number is good, and the change follows nothing
+    radio.flush(3)?;
+    Ok(trace)
 }
 
-fn main() {
-    let mut radio = Radio { table: [0; TABLE], image: [0; IMAGE], undo: [0; UNDO] };
-    if let Err(refusal) = session(&mut radio) {
-        println!("refused: {}", board::words(refusal));
-        std::process::exit(1);
+fn main() -> std::io::Result<()> {
+    let mut radio =
+        Radio { table: [0; TABLE], image: [0; IMAGE], undo: [0; UNDO], record: [0; RECORD], trace: Vec::new() };
+    match (session(&mut radio), std::env::args().nth(1)) {
+        (Ok(trace), Some(file)) => std::fs::write(file, trace),
+        (Ok(_), None) => Ok(()),
+        (Err(refusal), _) => {
+            println!("refused: {}", board::words(refusal));
+            std::process::exit(1)
+        }
     }
 }

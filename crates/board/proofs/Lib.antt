@@ -5,4 +5,5 @@ pub mod Length
 pub mod Answers
 pub mod RoundTrip
 pub mod OneAnswer
+pub mod Recorded
 pub mod Kept

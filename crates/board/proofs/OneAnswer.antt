@@ -12,9 +12,12 @@ use Rattle.rules.specs.Ask.{askWord}
 use Rattle.rules.specs.Calls.{Opening, Completion, plainNumber, askNumber, countNumber, counted}
 use Rattle.rules.proofs.Cases.{first-one}
 use Rattle.rules.proofs.OneAnswer.{open-one, create-one, write-one, complete-one, ask-one, count-one}
+use Rattle.records.specs.Record.{Call}
+use Rattle.records.proofs.OneAnswer.{record-one}
 use Rattle.board.specs.Layout.{tableBytes, numberAt, slotStart, IsTable, tableIn, bytesOf}
 use Rattle.board.specs.Calls.{tableAfter, OpenCall, CreateEnd, createEnd, createNone, CreateCall, WriteEnd, writeEnd, writeNone, WriteCall}
 use Rattle.board.specs.Calls.{CompleteCall, AskCall, CountCall}
+use Rattle.board.specs.Records.{RecordEnd, recordEnd, RecordCall}
 
 -- bytes are a table or they are not
 tags-to : (bytes : List ℕ) (n : ℕ) → Dec ((i : ℕ) → i < n → numberAt bytes (slotStart i) 4 ≤ 4)
@@ -114,3 +117,10 @@ module _ {table : List ℕ} where
           let o = count-one (tableIn table) b (x .0) (y .0) (x .1) (y .1) in
           (x .2 ∙ ap countNumber o ∙ sym (y .2), x .3 ∙ ap counted o ∙ sym (y .3))
       by (no d) = (p .no-table d .0 ∙ sym (q .no-table d .0), p .no-table d .1 ∙ sym (q .no-table d .1))
+
+-- the five that record a call
+pub record-call-one : (buffer : List ℕ) (c : Call) (e e′ : RecordEnd) → RecordCall buffer c e → RecordCall buffer c e′ → e ≡ e′
+record-call-one buffer c e e′ p q =
+    let a = p .is in
+    let b = q .is in
+    a .2 ∙ ap recordEnd (record-one buffer c (a .0) (b .0) (a .1) (b .1)) ∙ sym (b .2)

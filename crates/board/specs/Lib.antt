@@ -1,3 +1,4 @@
 -- A table as bytes, and what each exported function promises.
 pub mod Layout
 pub mod Calls
+pub mod Records

@@ -9,3 +9,4 @@ pub mod ReadBack
 pub mod Beginning
 pub mod RoundTrip
 pub mod Only
+pub mod OneAnswer

@@ -15,6 +15,10 @@ abbrev pub recordNumber : Recorded → ℕ
 recordNumber (recorded.Length n) = 0
 recordNumber (recorded.Refused k) = k
 
+abbrev pub recordLength : Recorded → ℕ
+recordLength (recorded.Length n) = n
+recordLength (recorded.Refused k) = 0
+
 -- what a function of the writer leaves: its answer and the lent buffer
 pub record Recording : Type 0 where
   pub answer : Recorded
