@@ -226,6 +226,7 @@ fn pasted_orders(pair: Pair) -> bool {
 mod tests {
     use super::*;
     use crate::judge::cover::Cover;
+    use crate::traces::sums;
 
     fn cases_pass(library: &dyn library::calls::Library) {
         let pair = Pair { library, model: Some(&Mock(Right)) };
@@ -260,5 +261,20 @@ mod tests {
     #[test]
     fn every_wrong_model_is_caught() {
         assert!(wrong::run(false));
+    }
+
+    #[test]
+    fn the_model_prints_what_the_folder_expects() {
+        assert!(folder::run(&Tested::Model, &folder::cases().expect("the folder")));
+    }
+
+    #[test]
+    fn every_wrong_replay_is_caught_by_the_folder() {
+        assert!(traces::wrong::run(&folder::cases().expect("the folder")));
+    }
+
+    #[test]
+    fn random_traces_reach_all_that_is_on_the_list() {
+        assert!(many::run(&Tested::Model, sums::ENOUGH, 3));
     }
 }

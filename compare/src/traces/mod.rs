@@ -8,4 +8,6 @@ pub mod many;
 pub mod program;
 pub mod sums;
 pub mod tested;
+#[cfg(test)]
+mod writer;
 pub mod wrong;

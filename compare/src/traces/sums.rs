@@ -14,14 +14,15 @@ pub struct Sums {
     pub records: u64,
     damaged: BTreeMap<Damage, u64>,
     ended: BTreeMap<Ended, u64>,
-    /// Word, answer, and what stands behind a number that counts for nothing here.
-    answers: BTreeMap<String, u64>,
+    /// Each without its place and its numbers of patches and changes.
+    lines: BTreeMap<String, u64>,
 }
 
-const WANTED: [&str; 18] = [
+const LINES: [&str; 24] = [
     "open 0",
     "open 15",
     "create 0 hard",
+    "create 0 hard joined",
     "create 0 soft",
     "create 3",
     "create 4",
@@ -37,8 +38,12 @@ const WANTED: [&str; 18] = [
     "write 12",
     "write 13",
     "complete 0",
+    "complete 3",
+    "complete 14",
+    "cut none",
+    "cut some",
+    "bad 16",
 ];
-const WANTED_TOO: [&str; 5] = ["complete 3", "complete 14", "cut none", "cut some", "bad 16"];
 
 const ENDED: [Ended; 11] = [
     Ended::Cut,
@@ -58,10 +63,13 @@ impl Sums {
     pub fn see(&mut self, printed: &Printed, damage: Option<Damage>) {
         self.traces += 1;
         self.records += printed.text.lines().count() as u64;
-        damage.map(|damage| *self.damaged.entry(damage).or_default() += 1);
+        if let Some(damage) = damage {
+            *self.damaged.entry(damage).or_default() += 1;
+        }
         *self.ended.entry(printed.ended).or_default() += 1;
+        let mut highest = 0;
         for line in printed.text.lines() {
-            *self.answers.entry(kind_of(line)).or_default() += 1;
+            *self.lines.entry(kind_of(line, &mut highest)).or_default() += 1;
         }
     }
 
@@ -70,7 +78,7 @@ impl Sums {
         self.records += other.records;
         add(&mut self.damaged, other.damaged);
         add(&mut self.ended, other.ended);
-        add(&mut self.answers, other.answers);
+        add(&mut self.lines, other.lines);
     }
 
     pub fn print(&self) {
@@ -78,13 +86,13 @@ impl Sums {
         println!("{} traces, {} records; {damaged} of the traces damaged", self.traces, self.records);
         println!("  damaged: {}", listed(&self.damaged, |damage| format!("{damage:?}")));
         println!("  ended: {}", listed(&self.ended, |ended| format!("{ended:?}")));
-        println!("  lines: {}", listed(&self.answers, String::clone));
+        println!("  lines: {}", listed(&self.lines, String::clone));
     }
 
     /// What is on the list and was not reached.
     pub fn missing(&self) -> Vec<String> {
-        let lines = WANTED.iter().chain(&WANTED_TOO).map(|&line| String::from(line));
-        let lines = lines.filter(|line| !self.answers.contains_key(line));
+        let lines = LINES.iter().map(|&line| String::from(line));
+        let lines = lines.filter(|line| !self.lines.contains_key(line));
         let ended = ENDED.iter().filter(|ended| !self.ended.contains_key(ended));
         lines.chain(ended.map(|ended| format!("{ended:?}"))).collect()
     }
@@ -101,10 +109,16 @@ fn listed<K>(counts: &BTreeMap<K, u64>, name: impl Fn(&K) -> String) -> String {
     each.join(", ")
 }
 
-/// A line without its place, and without the numbers of patches and changes.
-fn kind_of(line: &str) -> String {
+/// A line without its place, and without the numbers of patches and changes. A change that is not given a number above the highest so
+/// far has joined.
+fn kind_of(line: &str, highest: &mut u64) -> String {
     match line.split(' ').collect::<Vec<_>>()[..] {
-        [_, "create", "0", _, hold] => format!("create 0 {hold}"),
+        [_, "create", "0", number, hold] => {
+            let number = number.parse().unwrap_or(0);
+            let joined = if number <= *highest { " joined" } else { "" };
+            *highest = number.max(*highest);
+            format!("create 0 {hold}{joined}")
+        }
         [_, "cut", "0"] => String::from("cut none"),
         [_, "cut", _] => String::from("cut some"),
         [_, word, answer, ..] => format!("{word} {answer}"),

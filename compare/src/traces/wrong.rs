@@ -127,7 +127,7 @@ fn silent(about: Bad, place: u64, bad: Bad) -> String {
 wrong!(SecondOpenTaken: fn misplaced(&self, run: &Run, record: &Record) -> Option<Bad> {
     Right.misplaced(run, record).filter(|&bad| bad != Bad::OpenAgain)
 });
-wrong!(OpenAgainAfterRefused: fn misplaced(&self, run: &Run, record: &Record) -> Option<Bad> {
+wrong!(OpenAgainAtOnce: fn misplaced(&self, run: &Run, record: &Record) -> Option<Bad> {
     let untouched = run.table.as_ref().is_some_and(|table| *table == Table::empty(table.setting, 1));
     Right.misplaced(run, record).filter(|_| !untouched)
 });
@@ -195,6 +195,15 @@ impl Replay for PlaceIn {
             format!("{} {rest}\n", place.parse().unwrap_or(0u64) % (1 << self.0))
         };
         Printed { text: text.lines().map(line).collect(), ended }
+    }
+}
+
+/// Reads so many bytes and no more.
+struct Reads(usize);
+
+impl Replay for Reads {
+    fn printed(&self, input: &[u8]) -> Printed {
+        Right.printed(&input[..input.len().min(self.0)])
     }
 }
 
@@ -373,7 +382,7 @@ fn of_the_trace() -> Vec<Entry> {
         ("bad says why", Box::new(BadSaysWhy)),
         ("bad has the place before it", Box::new(PlaceOfTheLastGood)),
         ("a second open taken", Box::new(SecondOpenTaken)),
-        ("a second open taken after a refused one", Box::new(OpenAgainAfterRefused)),
+        ("a second open taken while nothing was done", Box::new(OpenAgainAtOnce)),
         ("a missing open taken", Box::new(OpenNotAsked)),
         ("a record after cut taken", Box::new(AfterCutTaken)),
         ("a loose end after cut taken", Box::new(LooseEndAfterCutTaken)),
@@ -390,6 +399,7 @@ fn of_lines() -> Vec<Entry> {
         ("places from 0", Box::new(PlacesFromZero)),
         ("place in 8 bits", Box::new(PlaceIn(8))),
         ("place in 16 bits", Box::new(PlaceIn(16))),
+        ("reads 65,536 bytes", Box::new(Reads(65_536))),
         ("no newline at the end", Box::new(NoLastNewline)),
         ("a refused create says number 0", Box::new(RefusedCreateSaysNumber)),
         ("a refused write says 0 patches", Box::new(RefusedWriteSaysCount)),
