@@ -32,7 +32,7 @@ pub fn made(seed: u64) -> Made {
 fn sensible(random: &mut Random) -> Vec<Vec<u8>> {
     let mut made = vec![Record::Open { first: opening(random) }];
     let taste = taste(random);
-    let calls = random.pick(&[0, 2, 10, 20, 30, 60, 60, 140]);
+    let calls = if random.percent(1) { 1_000 } else { random.pick(&[0, 2, 10, 20, 30, 60, 60, 140]) };
     let mut run = Run::new();
     Right.line(&mut run, &made[0]);
     let mut maker = Maker::new(Random::new(random.number()), taste);

@@ -85,23 +85,30 @@ fn what_differs(tested: &Tested, bytes: &[u8]) -> Option<String> {
     }
 }
 
-/// Leaves out records as long as the outputs still differ, and prints what is left as the folder's cases have it.
+/// Prints a trace that fails, shortened, as the folder's cases have it.
 fn report(tested: &Tested, seed: u64, failed: Failed) {
     let mut pieces = pieces(&failed.bytes);
-    println!("difference in trace {} of seed {seed}, {} pieces:", failed.place, pieces.len());
-    let mut at = pieces.len();
-    while at > 0 {
-        at -= 1;
-        let mut shorter = pieces.clone();
-        shorter.remove(at);
-        if what_differs(tested, &shorter.concat()).is_some() {
-            pieces = shorter;
-        }
+    println!("difference in trace {} of seed {seed}, {} pieces, shrunk to:", failed.place, pieces.len());
+    while let Some(shorter) = shorter(tested, &pieces) {
+        pieces = shorter;
     }
     for piece in &pieces {
         println!("    {}", hex(piece));
     }
     println!("  {}", what_differs(tested, &pieces.concat()).unwrap_or_default());
+}
+
+/// With all pieces left out, from the last to the first, without which the outputs still differ; none where there is no such piece.
+fn shorter(tested: &Tested, pieces: &[Vec<u8>]) -> Option<Vec<Vec<u8>>> {
+    let mut left = pieces.to_vec();
+    for at in (0..pieces.len()).rev() {
+        let mut without = left.clone();
+        without.remove(at);
+        if what_differs(tested, &without.concat()).is_some() {
+            left = without;
+        }
+    }
+    Some(left).filter(|left| left.len() < pieces.len())
 }
 
 /// The bytes parted where one record seems to end and the next to begin.
