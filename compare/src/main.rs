@@ -226,6 +226,7 @@ fn pasted_orders(pair: Pair) -> bool {
 mod tests {
     use super::*;
     use crate::judge::cover::Cover;
+    use crate::model::replay::Replay;
     use crate::traces::sums;
 
     fn cases_pass(library: &dyn library::calls::Library) {
@@ -266,6 +267,15 @@ mod tests {
     #[test]
     fn the_model_prints_what_the_folder_expects() {
         assert!(folder::run(&Tested::Model, &folder::cases().expect("the folder")));
+    }
+
+    #[test]
+    fn the_folder_reaches_all_that_is_on_the_list() {
+        let mut sums = sums::Sums::default();
+        for case in folder::cases().expect("the folder") {
+            sums.see(&Right.printed(&case.input), None);
+        }
+        assert_eq!(sums.missing(), Vec::<String>::new());
     }
 
     #[test]

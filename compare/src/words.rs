@@ -29,7 +29,7 @@ const LONG_SEED: u64 = 2;
 const ORDERS: u64 = 100;
 const GAIN_CHANGES: u64 = 1_000_000;
 /// A process for each: under an emulator far fewer go into the same time.
-const QUICK_TRACES: u64 = if cfg!(target_arch = "x86_64") { 10_000 } else { 300 };
+const QUICK_TRACES: u64 = if cfg!(target_arch = "x86_64") { 20_000 } else { 300 };
 const TRACES_SEED: u64 = 1;
 const LONG_TRACE: u64 = 1_000_000;
 

@@ -1,5 +1,5 @@
-//! The records of a trace, by request c: a tag, the value's length in two bytes with the high byte first, and the value. Here they are
-//! written; replay.rs reads them.
+//! The records of a trace, by request c: a tag, the value's length in two bytes with the high byte first, and the value. Here they
+//! are written; replay.rs reads them.
 
 /// No value is longer.
 pub const LONGEST_VALUE: usize = 1_200;

@@ -1,11 +1,11 @@
 //! What a replay prints for a trace, by request c: a line for each record, from a zero image, until the input ends or is bad.
 //!
-//! As in rules.rs every rule is a method of a trait with its body here; `Right` takes them all as they are, and a wrong model replaces
-//! one of them. How many changes are on the store is judged from a list of all changes accepted: each is looked up by its number when
-//! the power goes. Nothing is counted along the way.
+//! As in rules.rs every rule is a method of a trait with its body here; `Right` takes them all as they are, and a wrong replay
+//! replaces one of them. How many changes are on the store is judged from a list of all changes accepted: each is looked up by its
+//! number when the power goes. Nothing is counted along the way.
 
 use crate::model::record::{LONGEST_VALUE, Record};
-use crate::model::rules::{self, Model};
+use crate::model::rules::{Model, Right};
 use crate::model::setting::Setting;
 use crate::model::table::*;
 
@@ -76,7 +76,7 @@ pub type Taken<'a> = (Record, &'a [u8]);
 pub trait Replay {
     /// The rules of the calls.
     fn calls(&self) -> &dyn Model {
-        &rules::Right
+        &Right
     }
 
     // ---- Records: what the bytes say ----
@@ -193,9 +193,9 @@ pub trait Replay {
             }
             Record::Create { block, offset, named, data } => {
                 let change = Change { block: *block, offset: *offset, data, named };
-                self.said("create", self.create(run, &change))
+                self.said("create", self.created(run, &change))
             }
-            Record::Write { block } => self.said("write", self.write(run, *block)),
+            Record::Write { block } => self.said("write", self.written(run, *block)),
             Record::Complete { block } => {
                 let judged = run.table.as_mut().map_or(Ok(()), |table| self.calls().complete(table, *block));
                 self.said("complete", judged.map(|()| String::new()))
@@ -216,7 +216,7 @@ pub trait Replay {
     }
 
     /// Granted: number, and hard or soft.
-    fn create(&self, run: &mut Run, change: &Change) -> Result<String, Refusal> {
+    fn created(&self, run: &mut Run, change: &Change) -> Result<String, Refusal> {
         let Some(table) = &mut run.table else { return Ok(String::new()) };
         let (number, state) = self.calls().create(table, &mut run.image, &mut run.undo, change)?;
         run.accepted.push(Accepted { number, block: change.block });
@@ -225,7 +225,7 @@ pub trait Replay {
     }
 
     /// Granted: how many patches went.
-    fn write(&self, run: &mut Run, block: u32) -> Result<String, Refusal> {
+    fn written(&self, run: &mut Run, block: u32) -> Result<String, Refusal> {
         let Some(table) = &mut run.table else { return Ok(String::new()) };
         let sent = self.calls().write(table, &run.image, &run.undo, &mut run.handed, block)?;
         Ok(format!(" {}", self.went(run, &sent)))
@@ -257,6 +257,4 @@ pub trait Replay {
 }
 
 /// The replay as the papers have it.
-pub struct Right;
-
 impl Replay for Right {}

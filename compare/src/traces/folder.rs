@@ -1,5 +1,5 @@
-//! The cases of the folder `traces/`: for each NAME.hex, the input, a NAME.out beside it with the whole expected output. What may stand
-//! in the two is said in the folder's README.md.
+//! The cases of the folder `traces/`: for each NAME.hex, the input, a NAME.out beside it with the whole expected output. What may
+//! stand in the two is said in the folder's README.md.
 
 use crate::traces::program::Pieces;
 use crate::traces::tested::Tested;

@@ -1,5 +1,5 @@
-//! How fast `replay` is on a long trace, and how much memory it takes: document 01's session of two pages over and over, each turn with
-//! the numbers that come next. What must be printed is known from the session's rows, so no model has to run that long.
+//! How fast `replay` is on a long trace, and how much memory it takes: document 01's session of two pages over and over, each turn
+//! with the numbers that come next. What must be printed is known from the session's rows, so no model has to run that long.
 
 use crate::model::record::Record;
 use crate::traces::folder::difference;
@@ -49,8 +49,13 @@ fn trace(at_least: u64) -> (Vec<u8>, String, u64) {
     (bytes, lines, rows.len() as u64)
 }
 
-/// Runs the trace and prints the figures.
+/// Runs a hundredth of the trace and the whole: memory that grows with the trace shows.
 pub fn run(program: &Program, at_least: u64) -> Result<bool, String> {
+    Ok(measure(program, at_least / 100)? && measure(program, at_least)?)
+}
+
+/// Runs a trace and prints the figures.
+fn measure(program: &Program, at_least: u64) -> Result<bool, String> {
     let (bytes, wanted, records) = trace(at_least);
     let start = Instant::now();
     let mut child = program.start()?;
@@ -69,13 +74,9 @@ pub fn run(program: &Program, at_least: u64) -> Result<bool, String> {
     if let Some(what) = difference(&String::from_utf8_lossy(&output), &wanted) {
         return Err(what);
     }
-    println!("replay of {records} records, {} bytes in, {} bytes out", bytes.len(), output.len());
-    if cfg!(target_arch = "x86_64") {
-        println!("{seconds:.2} s, {:.0} records a second", records as f64 / seconds);
-        println!("most memory resident: {memory}");
-    } else {
-        println!("time and memory are not read here: it runs under an emulator");
-    }
+    let read = format!("{seconds:.2} s, {:.0} records a second, {memory} resident", records as f64 / seconds);
+    let figures = if cfg!(target_arch = "x86_64") { &read } else { "not measured under an emulator" };
+    println!("replay, {records} records, {} bytes in, {} bytes out: {figures}", bytes.len(), output.len());
     Ok(ended.success())
 }
 
@@ -89,7 +90,8 @@ fn most_resident(process: u32) -> Option<String> {
 #[cfg(test)]
 mod tests {
     use super::*;
-    use crate::model::replay::{Replay, Right};
+    use crate::model::replay::Replay;
+    use crate::model::rules::Right;
 
     #[test]
     fn the_model_prints_the_sessions_lines() {

@@ -2,7 +2,8 @@
 //! chosen with an eye on the table as it stands. Some traces are damaged afterwards (damage.rs).
 
 use crate::model::record::{LONGEST_VALUE, Record};
-use crate::model::replay::{Replay, Right, Run};
+use crate::model::replay::{Replay, Run};
+use crate::model::rules::Right;
 use crate::model::setting::Setting;
 use crate::model::table::Table;
 use crate::orders::maker::{Maker, Taste, first_number};

@@ -1,7 +1,8 @@
 //! Random traces: what `replay` prints, held to what the second model prints.
 
 use crate::model::record::HEAD_BYTES;
-use crate::model::replay::{Replay, Right};
+use crate::model::replay::Replay;
+use crate::model::rules::Right;
 use crate::orders::random::Random;
 use crate::traces::folder::difference;
 use crate::traces::maker::{Made, made};
@@ -74,7 +75,8 @@ fn one_part(tested: &Tested, seed: u64, places: impl Iterator<Item = u64>) -> Re
     Ok(sums)
 }
 
-fn seed_of(run: u64, place: u64) -> u64 {
+/// The seed of the trace with this place in a run.
+pub fn seed_of(run: u64, place: u64) -> u64 {
     Random::new(run ^ place.rotate_left(32)).number()
 }
 

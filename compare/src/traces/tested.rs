@@ -1,7 +1,8 @@
 //! What prints a trace's lines: replay, or the model in its place.
 
 use crate::library::through::Through;
-use crate::model::replay::{Replay, Right};
+use crate::model::replay::Replay;
+use crate::model::rules::Right;
 use crate::traces::program::{Pieces, Program};
 
 pub enum Tested {

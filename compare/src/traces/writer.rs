@@ -55,7 +55,8 @@ pub fn any(random: &mut Random) -> Record {
 mod tests {
     use super::*;
     use crate::model::record::HEAD_BYTES;
-    use crate::model::replay::{Replay, Right};
+    use crate::model::replay::Replay;
+    use crate::model::rules::Right;
 
     /// What fits, by the request's words: a block of one byte, an offset of two, a count of one, and a value of at most 1,200.
     fn fits(record: &Record) -> bool {

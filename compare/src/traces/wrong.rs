@@ -1,10 +1,12 @@
 //! Shows that the folder of cases can fail: replays with one rule wrong each. Some case must catch each.
 
 use crate::model::record::Record;
-use crate::model::replay::{Accepted, Bad, Ended, Printed, Replay, Right, Run, Taken};
-use crate::model::rules::Model;
+use crate::model::replay::{Accepted, Bad, Ended, Printed, Replay, Run, Taken};
+use crate::model::rules::{Model, Right};
 use crate::model::table::*;
 use crate::traces::folder::{Case, difference};
+use crate::traces::maker::made;
+use crate::traces::many::seed_of;
 
 /// Declares a wrong replay: a name, and the rule it has instead.
 macro_rules! wrong {
@@ -228,23 +230,23 @@ wrong!(WriteSaysChanges: fn went(&self, run: &Run, sent: &Slots) -> u64 {
 wrong!(WriteSaysSet: fn went(&self, _: &Run, sent: &Slots) -> u64 { sent.iter().map(|&slot| 1 << slot).sum() });
 wrong!(WriteSaysSlot: fn went(&self, _: &Run, sent: &Slots) -> u64 { sent.first().map_or(0, |&slot| slot as u64) });
 wrong!(WriteSaysOne: fn went(&self, _: &Run, _: &Slots) -> u64 { 1 });
-wrong!(AlwaysHard: fn create(&self, run: &mut Run, change: &Change) -> Result<String, Refusal> {
-    Right.create(run, change).map(|more| more.replace("soft", "hard"))
+wrong!(AlwaysHard: fn created(&self, run: &mut Run, change: &Change) -> Result<String, Refusal> {
+    Right.created(run, change).map(|more| more.replace("soft", "hard"))
 });
-wrong!(HoldsSwapped: fn create(&self, run: &mut Run, change: &Change) -> Result<String, Refusal> {
-    Right.create(run, change).map(swapped)
+wrong!(HoldsSwapped: fn created(&self, run: &mut Run, change: &Change) -> Result<String, Refusal> {
+    Right.created(run, change).map(swapped)
 });
-wrong!(JoinsSaidSoft: fn create(&self, run: &mut Run, change: &Change) -> Result<String, Refusal> {
+wrong!(JoinsSaidSoft: fn created(&self, run: &mut Run, change: &Change) -> Result<String, Refusal> {
     let joins = joins(run, change);
-    Right.create(run, change).map(|more| if joins { swapped(more) } else { more })
+    Right.created(run, change).map(|more| if joins { swapped(more) } else { more })
 });
-wrong!(JoinsSaidNext: fn create(&self, run: &mut Run, change: &Change) -> Result<String, Refusal> {
+wrong!(JoinsSaidNext: fn created(&self, run: &mut Run, change: &Change) -> Result<String, Refusal> {
     let next = run.table.as_ref().filter(|_| joins(run, change)).map(|table| table.next);
-    let more = Right.create(run, change)?;
+    let more = Right.created(run, change)?;
     Ok(next.map_or(more, |next| format!(" {next} hard")))
 });
-wrong!(RoomSaid: fn create(&self, run: &mut Run, change: &Change) -> Result<String, Refusal> {
-    Right.create(run, change).map(|more| more.replace("soft", "soft 0"))
+wrong!(RoomSaid: fn created(&self, run: &mut Run, change: &Change) -> Result<String, Refusal> {
+    Right.created(run, change).map(|more| more.replace("soft", "soft 0"))
 });
 
 fn swapped(more: String) -> String {
@@ -437,18 +439,29 @@ fn of_the_cut() -> Vec<Entry> {
     ]
 }
 
-/// Runs every wrong replay over the cases, and says by which each is caught; true when all were.
+/// So many random traces are tried as well.
+const TRACES: u64 = 2_000;
+const SEED: u64 = 7;
+
+/// The first of the random traces that catches it.
+fn caught_by_random(replay: &dyn Replay) -> Option<u64> {
+    (0..TRACES).find(|&place| {
+        let bytes = made(seed_of(SEED, place)).bytes;
+        replay.printed(&bytes).text != Right.printed(&bytes).text
+    })
+}
+
+/// Runs every wrong replay over the cases, and says by which each is caught; true when all were. What random traces catch is said
+/// beside it.
 pub fn run(cases: &[Case]) -> bool {
     let mut all_caught = true;
+    println!("{:46} {:>12}  caught by the case", "wrong replay", "random trace");
     for (name, replay) in entries() {
+        let random = caught_by_random(&*replay).map_or(String::from("-"), |place| (place + 1).to_string());
         let differs = |case: &&Case| difference(&replay.printed(&case.input).text, &case.wanted).is_some();
-        match cases.iter().find(differs) {
-            Some(case) => println!("{name:42} caught by {}", case.name),
-            None => {
-                println!("{name:42} NOT CAUGHT");
-                all_caught = false;
-            }
-        }
+        let by = cases.iter().find(differs).map(|case| case.name.as_str());
+        println!("{name:46} {random:>12}  {}", by.unwrap_or("NOT CAUGHT"));
+        all_caught &= by.is_some();
     }
     all_caught
 }
