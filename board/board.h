@@ -59,6 +59,7 @@ extern "C" {
 #define BOARD_IMAGE 16384u /* the working image: 64 blocks of 256 bytes */
 #define BOARD_UNDO 1024u   /* the undo area: 16 rooms of 64 bytes */
 #define BOARD_BLOCK 256u   /* the block handed out */
+#define BOARD_RECORD 1203u /* a record of a trace */
 
 /* The refusal numbers. Each call answers the first of its own that holds, in rising order. */
 enum board_refusal {
@@ -77,7 +78,8 @@ enum board_refusal {
     BOARD_NONE_WAITS = 12,
     BOARD_NONE_MAY_GO = 13,
     BOARD_NONE_IN_FLIGHT = 14,
-    BOARD_FIRST_NUMBER = 15
+    BOARD_FIRST_NUMBER = 15,
+    BOARD_NO_RECORD = 16
 };
 
 /* A refusal number in words. */
@@ -100,6 +102,7 @@ static inline const char *board_words(uint32_t refusal)
         "some wait, and none may go",
         "no patch of the block is in flight",
         "first number 0 or above 1,000,000,000",
+        "the call fits no record",
     };
     return refusal < sizeof words / sizeof words[0] ? words[refusal] : "no refusal has this number";
 }
@@ -134,6 +137,15 @@ uint32_t board_ask(const uint8_t *table, size_t table_len, uint32_t asked, uint3
 
 /* count: how many patches of the block wait; the changes of one number are one patch. Tests 2, 3. */
 uint32_t board_count(const uint8_t *table, size_t table_len, uint32_t block, uint32_t *count);
+
+/* The writer of a trace: the record of a call, or of the cut, in the first bytes of `record`; the others stay. length: the record's.
+ * Tests 1, 16. */
+uint32_t board_record_open(uint8_t *record, size_t record_len, uint32_t first, uint32_t *length);
+uint32_t board_record_create(uint8_t *record, size_t record_len, uint32_t block, uint32_t offset, const uint8_t *bytes,
+                             size_t bytes_len, const uint32_t *named, size_t named_len, uint32_t *length);
+uint32_t board_record_write(uint8_t *record, size_t record_len, uint32_t block, uint32_t *length);
+uint32_t board_record_complete(uint8_t *record, size_t record_len, uint32_t block, uint32_t *length);
+uint32_t board_record_cut(uint8_t *record, size_t record_len, uint64_t landed, uint32_t *length);
 
 #ifdef __cplusplus
 }

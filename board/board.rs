@@ -29,6 +29,7 @@ pub fn words(refusal: u32) -> &'static str {
         13 => "some wait, and none may go",
         14 => "no patch of the block is in flight",
         15 => "first number 0 or above 1,000,000,000",
+        16 => "the call fits no record",
         _ => "no refusal has this number",
     }
 }
@@ -63,6 +64,14 @@ pub mod raw {
         pub fn board_complete(table: *mut u8, table_len: usize, block: u32) -> u32;
         pub fn board_ask(table: *const u8, table_len: usize, asked: u32, state: *mut u32) -> u32;
         pub fn board_count(table: *const u8, table_len: usize, block: u32, count: *mut u32) -> u32;
+        pub fn board_record_open(record: *mut u8, record_len: usize, first: u32, length: *mut u32) -> u32;
+        pub fn board_record_create(
+            record: *mut u8, record_len: usize, block: u32, offset: u32, bytes: *const u8, bytes_len: usize, named: *const u32,
+            named_len: usize, length: *mut u32,
+        ) -> u32;
+        pub fn board_record_write(record: *mut u8, record_len: usize, block: u32, length: *mut u32) -> u32;
+        pub fn board_record_complete(record: *mut u8, record_len: usize, block: u32, length: *mut u32) -> u32;
+        pub fn board_record_cut(record: *mut u8, record_len: usize, landed: u64, length: *mut u32) -> u32;
     }
 }
 
