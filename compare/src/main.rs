@@ -22,7 +22,7 @@ use model::rules::{Right, Under};
 use model::setting::Setting;
 use traces::program::Program;
 use traces::tested::Tested;
-use traces::{folder, long, many};
+use traces::{folder, long, many, writer};
 
 use std::process::ExitCode;
 use std::time::{Duration, Instant};
@@ -131,6 +131,7 @@ fn all_cases(pair: Pair, seed: u64, calls: u64, enough: u64) -> bool {
             sweep::run(pair, &mut driver.cover),
             "tables: broken in every way in every slot, and at every bound",
         ),
+        (writer::run(pair.library), "the writer: every field of a record at its bounds, and random calls"),
     ] {
         match run {
             Ok(made) => println!("{what}, {made} calls"),
@@ -235,6 +236,7 @@ mod tests {
         assert_eq!(fixed::run(pair, &mut cover).map_err(|(_, what)| what).err(), None);
         assert_eq!(paper::run(pair, &mut cover).map_err(|(_, what)| what).err(), None);
         assert_eq!(sweep::run(pair, &mut cover).map_err(|(_, what)| what).err(), None);
+        assert_eq!(writer::run(library).map_err(|(_, what)| what).err(), None);
     }
 
     #[test]

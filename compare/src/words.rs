@@ -4,7 +4,7 @@ use crate::library::through::{Through, USUAL};
 
 pub const USAGE: &str = "\
 usage: compare COMMAND [WAY]
-  quick             fixed cases, the source paper's figures, tables, then calls from a fixed seed
+  quick             fixed cases, the source paper's figures, tables, the writer, then calls from a fixed seed
   long N [SEED]     the same with at least N calls
   one SEED          the order of one seed again, call by call
   pasted            the orders pasted into src/cases/pasted.rs

@@ -8,6 +8,7 @@ pub mod many;
 pub mod program;
 pub mod sums;
 pub mod tested;
-#[cfg(test)]
-mod writer;
+pub mod writer;
 pub mod wrong;
+#[cfg(test)]
+mod wrong_writers;

@@ -1,7 +1,13 @@
-//! Calls for the writer: every field at, below and above what a record can hold, and random ones.
+//! The writer against the model's records: every field at, below and above what a record can hold, and random calls, into buffers of
+//! the exact size and of others. A refusal changes no byte, and no byte behind a record changes.
 
-use crate::model::record::{LONGEST_VALUE, Record};
+use crate::library::calls::Library;
+use crate::model::record::{HEAD_BYTES, LONGEST_VALUE, Record};
+use crate::model::replay::{BAD, Replay};
+use crate::model::rules::Right;
+use crate::model::table::Refusal;
 use crate::orders::random::Random;
+use std::collections::BTreeSet;
 
 const BLOCKS: [u32; 9] = [0, 1, 63, 64, 255, 256, 257, 1 << 24, u32::MAX];
 const OFFSETS: [u32; 8] = [0, 1, 255, 256, 65_535, 65_536, 65_537, u32::MAX];
@@ -51,12 +57,88 @@ pub fn any(random: &mut Random) -> Record {
     }
 }
 
+pub const RECORD_BYTES: usize = HEAD_BYTES + LONGEST_VALUE;
+const ODD_SIZES: [usize; 7] = [0, 1, 3, 1_200, 1_202, 1_204, 2_406];
+/// Stands in the length before the call, so that one left unwritten shows.
+pub const UNWRITTEN: u32 = 0xDEAD_BEEF;
+const SEED: u64 = 5;
+const CALLS: usize = 20_000;
+
+/// Writes a record into the buffer, and its length; answers the refusal, or what it did that it may not.
+type Writer<'a> = &'a dyn Fn(&mut [u8], &Record, &mut u32) -> Result<u32, String>;
+
+/// Holds one call to the model; gives the refusal.
+fn judged(writer: Writer, record: &Record, lent: &[u8]) -> Result<u32, String> {
+    let (mut buffer, mut length) = (lent.to_vec(), UNWRITTEN);
+    let refusal = writer(&mut buffer, record, &mut length)?;
+    let mut wanted = lent.to_vec();
+    let (answer, said) = match record.bytes() {
+        _ if lent.len() != RECORD_BYTES => (Refusal::BufferSize.number(), 0),
+        None => (BAD, 0),
+        Some(bytes) => {
+            wanted[..bytes.len()].copy_from_slice(&bytes);
+            (0, bytes.len())
+        }
+    };
+    if (refusal, length as usize) != (answer, said) {
+        return Err(format!("answer {refusal}, length {length}; wanted {answer} and {said}"));
+    }
+    if let Some(at) = (0..wanted.len()).find(|&at| buffer[at] != wanted[at]) {
+        return Err(format!("byte {at} of the buffer is {}, wanted {}", buffer[at], wanted[at]));
+    }
+    let read_back = Right.record(&buffer[..said]).map(|(read, rest)| read == *record && rest.is_empty());
+    if refusal == 0 && read_back != Ok(true) {
+        return Err(String::from("what was written is not read back"));
+    }
+    Ok(refusal)
+}
+
+/// Writes records of calls at the edges and of random ones; gives how many, or what went wrong first, and at which.
+pub fn run(library: &dyn Library) -> Result<usize, (usize, String)> {
+    run_on(&|buffer, record, length| {
+        let refusal = library.record(buffer, record, length);
+        library.harm().map_or(Ok(refusal), |harm| Err(String::from(harm)))
+    })
+}
+
+fn run_on(writer: Writer) -> Result<usize, (usize, String)> {
+    let mut random = Random::new(SEED);
+    let (edges, mut reached) = (edges(), BTreeSet::new());
+    let all = 2 * edges.len() + CALLS;
+    for call in 0..all {
+        let record = edges.get(call / 2).cloned().unwrap_or_else(|| any(&mut random));
+        // Each edge once in a buffer of the exact size, and once in another; so are some of the random calls.
+        let odd = if call < 2 * edges.len() { call % 2 == 1 } else { random.percent(10) };
+        let size = if odd { random.pick(&ODD_SIZES) } else { RECORD_BYTES };
+        let lent = random.bytes(size);
+        let refusal = judged(writer, &record, &lent)
+            .map_err(|what| (call + 1, format!("{what}: {}", shown(&record))))?;
+        reached.insert((record.tag(), refusal));
+    }
+    let never = |tag, refusal| refusal == BAD && (tag == 1 || tag == 5);
+    for tag in 1..=5 {
+        let missing = [0, 1, BAD].into_iter().find(|&r| !never(tag, r) && !reached.contains(&(tag, r)));
+        if let Some(refusal) = missing {
+            return Err((all, format!("NOT REACHED: {refusal} for tag {tag}")));
+        }
+    }
+    Ok(all)
+}
+
+/// A record with the sizes of its lists alone.
+fn shown(record: &Record) -> String {
+    match record {
+        Record::Create { block, offset, named, data } => {
+            format!("create {block} {offset}, {} numbers, {} bytes", named.len(), data.len())
+        }
+        other => format!("{other:?}"),
+    }
+}
+
 #[cfg(test)]
 mod tests {
     use super::*;
-    use crate::model::record::HEAD_BYTES;
-    use crate::model::replay::Replay;
-    use crate::model::rules::Right;
+    use crate::traces::wrong_writers::{WRONG, right};
 
     /// What fits, by the request's words: a block of one byte, an offset of two, a count of one, and a value of at most 1,200.
     fn fits(record: &Record) -> bool {
@@ -67,6 +149,14 @@ mod tests {
                 let value = 4 + 4 * named.len() + data.len();
                 *block <= 255 && *offset <= 65_535 && named.len() <= 255 && value <= 1_200
             }
+        }
+    }
+
+    #[test]
+    fn every_wrong_writer_is_caught() {
+        assert_eq!(run_on(&|b, r, l| Ok(right(b, r, l))).err(), None);
+        for (name, wrong) in WRONG {
+            assert!(run_on(&|b, r, l| Ok(wrong(b, r, l))).is_err(), "{name} is not caught");
         }
     }
 
