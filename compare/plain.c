@@ -1,5 +1,5 @@
-/* The same six calls as a shop would write them in C: masks, arrays, the table read from its bytes and written back, no proofs.
- * It has the functions of board.h, and serve.c linked with it in the archive's place is what the library is measured against;
+/* The same calls and the writer as a shop would write them in C: masks, arrays, the table read from its bytes and written back, no
+ * proofs. It has the functions of board.h, and serve.c linked with it in the archive's place is what the library is measured against;
  * `compare quick --plain` holds it to the second model. It knows the board's setting alone. */
 #include <string.h>
 
@@ -405,4 +405,70 @@ uint32_t board_count(const uint8_t *table, size_t table_len, uint32_t block, uin
         return 3;
     *count = (uint32_t)__builtin_popcountll(on_block(&t, t.waiting, block));
     return 0;
+}
+
+#define LONGEST_VALUE 1200u
+
+/* A number's low bytes, high byte first. */
+static uint8_t *put_high_first(uint8_t *p, uint64_t n, unsigned bytes)
+{
+    while (bytes-- > 0)
+        *p++ = (uint8_t)(n >> 8 * bytes);
+    return p;
+}
+
+/* A record whose value is one number. */
+static uint32_t put_record(uint8_t *record, size_t record_len, uint8_t tag, uint64_t value, unsigned bytes, uint32_t *length)
+{
+    *length = 0;
+    if (record_len != BOARD_RECORD)
+        return BOARD_BUFFER_SIZE;
+    if (bytes < 8 && value >> 8 * bytes != 0)
+        return BOARD_NO_RECORD;
+    record[0] = tag;
+    put_high_first(put_high_first(record + 1, bytes, 2), value, bytes);
+    *length = 3 + bytes;
+    return BOARD_GRANTED;
+}
+
+uint32_t board_record_open(uint8_t *record, size_t record_len, uint32_t first, uint32_t *length)
+{
+    return put_record(record, record_len, 1, first, 4, length);
+}
+
+uint32_t board_record_create(uint8_t *record, size_t record_len, uint32_t block, uint32_t offset, const uint8_t *bytes,
+                             size_t bytes_len, const uint32_t *named, size_t named_len, uint32_t *length)
+{
+    *length = 0;
+    if (record_len != BOARD_RECORD)
+        return BOARD_BUFFER_SIZE;
+    if (block > 255 || offset > 65535 || named_len > 255 || bytes_len > LONGEST_VALUE - 4 - 4 * named_len)
+        return BOARD_NO_RECORD;
+    size_t value = 4 + 4 * named_len + bytes_len;
+    record[0] = 2;
+    put_high_first(record + 1, value, 2);
+    record[3] = (uint8_t)block;
+    put_high_first(record + 4, offset, 2);
+    record[6] = (uint8_t)named_len;
+    uint8_t *p = record + 7;
+    for (size_t i = 0; i < named_len; i++)
+        p = put_high_first(p, named[i], 4);
+    memcpy(p, bytes, bytes_len);
+    *length = (uint32_t)(3 + value);
+    return BOARD_GRANTED;
+}
+
+uint32_t board_record_write(uint8_t *record, size_t record_len, uint32_t block, uint32_t *length)
+{
+    return put_record(record, record_len, 3, block, 1, length);
+}
+
+uint32_t board_record_complete(uint8_t *record, size_t record_len, uint32_t block, uint32_t *length)
+{
+    return put_record(record, record_len, 4, block, 1, length);
+}
+
+uint32_t board_record_cut(uint8_t *record, size_t record_len, uint64_t landed, uint32_t *length)
+{
+    return put_record(record, record_len, 5, landed, 8, length);
 }

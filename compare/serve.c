@@ -4,11 +4,12 @@
  * Buffers are kept here between calls, as a radio keeps them. A call brings, for each of table, image, undo area and block handed
  * out, its length and the part that is other than what is kept (-1 in place of a length: not lent to this call); the answer
  * brings back the part that the call changed. Every number on the pipe is 32 bits, little-endian:
- *   call:   kind (0 open, 1 create, 2 write, 3 complete, 4 ask, 5 count), two numbers (first, block or asked; offset),
+ *   call:   kind (0 open, 1 create, 2 write, 3 complete, 4 ask, 5 count; 6 to 10 the record of an open, a create, a write, a
+ *           complete, a cut), two numbers (first, block or asked; offset; a cut's bits, high half first),
  *           four times length, place, count and the bytes; count and bytes of the data; the same of the names
  *   answer: refusal, number, hold, the set's low and high half, state, count; four times place, count and the bytes;
  *           1 where a byte beside a buffer was changed, else 0; the nanoseconds that the call took
- * Any other input ends the program with status 1. */
+ * A record goes into the buffer of the block handed out, its length into the count. Any other input ends the program with status 1. */
 #define _POSIX_C_SOURCE 200809L
 #include <stdio.h>
 #include <stdlib.h>
@@ -112,11 +113,33 @@ static int spilled(unsigned which)
     return 0;
 }
 
+static uint32_t write_record(uint32_t kind, uint32_t a, uint32_t b, uint32_t *length)
+{
+    uint8_t *record = start(HANDED);
+    size_t record_len = buffers[HANDED].len;
+    switch (kind) {
+    case 6: return board_record_open(record, record_len, a, length);
+    case 7:
+        return board_record_create(record, record_len, a, b, start(DATA), buffers[DATA].len,
+                                   (const uint32_t *)(const void *)start(NAMED), buffers[NAMED].len / 4, length);
+    case 8: return board_record_write(record, record_len, a, length);
+    case 9: return board_record_complete(record, record_len, a, length);
+    case 10: return board_record_cut(record, record_len, (uint64_t)a << 32 | b, length);
+    default: bad("no such call");
+    }
+    return 0;
+}
+
 static struct answer call(uint32_t kind, uint32_t a, uint32_t b)
 {
     uint8_t *table = start(TABLE), *image = start(IMAGE), *undo = start(UNDO), *handed = start(HANDED);
     size_t table_len = buffers[TABLE].len, image_len = buffers[IMAGE].len, undo_len = buffers[UNDO].len;
     struct answer r = {0, 0, 0, 0, 0, 0};
+    if (kind > 5) {
+        r.count = UNWRITTEN;
+        r.refusal = write_record(kind, a, b, &r.count);
+        return r;
+    }
     switch (kind) {
     case 0: r.refusal = board_open(table, table_len, a); break;
     case 1:

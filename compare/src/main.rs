@@ -1,4 +1,4 @@
-//! Compares the library with a second, independent model on many call orders. See README.md.
+//! Compares the library, and the program that replays a trace, with a second, independent model. See README.md.
 
 #![deny(unsafe_code)]
 
@@ -9,6 +9,7 @@ mod judge;
 mod library;
 mod model;
 mod orders;
+mod traces;
 mod words;
 
 use cases::{fixed, paper, pasted, sweep, twoways, wrong};
@@ -19,6 +20,9 @@ use library::mock::Mock;
 use library::through::{self, Through};
 use model::rules::{Right, Under};
 use model::setting::Setting;
+use traces::program::Program;
+use traces::tested::Tested;
+use traces::{folder, long, many, writer};
 
 use std::process::ExitCode;
 use std::time::{Duration, Instant};
@@ -44,15 +48,16 @@ fn main() -> ExitCode {
             return ExitCode::from(2);
         }
     };
+    let stood_in = match way {
+        Through::Link | Through::Pipe => "",
+        Through::Plain => " (the plain program in the library's place)",
+        Through::Model if command.is_of_replay() => " (the model in replay's place)",
+        Through::Model => " (the model in the library's place)",
+    };
     let passed = perform(command, way).unwrap_or_else(|why| {
         println!("{why}");
         false
     });
-    let stood_in = match way {
-        Through::Link | Through::Pipe => "",
-        Through::Plain => " (the plain program in the library's place)",
-        Through::Model => " (the model in the library's place)",
-    };
     println!("{}{stood_in}", if passed { "passed" } else { "FAILED" });
     if passed { ExitCode::SUCCESS } else { ExitCode::FAILURE }
 }
@@ -84,12 +89,15 @@ fn perform(command: Command, way: Through) -> Result<bool, String> {
         Command::Long { calls, seed } => all_cases(pair(&*under_test()?), seed, calls, ENOUGH_CALLS),
         Command::One { seed } => one(pair(&*under_test()?), seed),
         Command::Pasted => pasted_orders(pair(&*under_test()?)),
-        Command::Wrong { show } => wrong::run(show),
+        Command::Wrong { show } => wrong::run(show) & traces::wrong::run(&folder::cases()?),
         Command::Paper => paper::print(pair(&*under_test()?)),
         Command::Gain { most } => gain::print(&*under_test()?, most),
         Command::Settings { calls } => settings(calls),
         Command::Once { orders } => bench::once(&*through::library(way)?.1, orders),
         Command::Bench => bench::run().map(|()| true)?,
+        Command::Folder => folder::run(&Tested::through(way)?, &folder::cases()?),
+        Command::Traces { traces, seed } => many::run(&Tested::through(way)?, traces, seed),
+        Command::Replay { records } => long::run(&Program::find()?, records)?,
     })
 }
 
@@ -123,6 +131,7 @@ fn all_cases(pair: Pair, seed: u64, calls: u64, enough: u64) -> bool {
             sweep::run(pair, &mut driver.cover),
             "tables: broken in every way in every slot, and at every bound",
         ),
+        (writer::run(pair.library), "the writer: every field of a record at its bounds, and random calls"),
     ] {
         match run {
             Ok(made) => println!("{what}, {made} calls"),
@@ -218,6 +227,8 @@ fn pasted_orders(pair: Pair) -> bool {
 mod tests {
     use super::*;
     use crate::judge::cover::Cover;
+    use crate::model::replay::Replay;
+    use crate::traces::sums;
 
     fn cases_pass(library: &dyn library::calls::Library) {
         let pair = Pair { library, model: Some(&Mock(Right)) };
@@ -225,6 +236,7 @@ mod tests {
         assert_eq!(fixed::run(pair, &mut cover).map_err(|(_, what)| what).err(), None);
         assert_eq!(paper::run(pair, &mut cover).map_err(|(_, what)| what).err(), None);
         assert_eq!(sweep::run(pair, &mut cover).map_err(|(_, what)| what).err(), None);
+        assert_eq!(writer::run(library).map_err(|(_, what)| what).err(), None);
     }
 
     #[test]
@@ -252,5 +264,29 @@ mod tests {
     #[test]
     fn every_wrong_model_is_caught() {
         assert!(wrong::run(false));
+    }
+
+    #[test]
+    fn the_model_prints_what_the_folder_expects() {
+        assert!(folder::run(&Tested::Model, &folder::cases().expect("the folder")));
+    }
+
+    #[test]
+    fn the_folder_reaches_all_that_is_on_the_list() {
+        let mut sums = sums::Sums::default();
+        for case in folder::cases().expect("the folder") {
+            sums.see(&Right.printed(&case.input), None);
+        }
+        assert_eq!(sums.missing(), Vec::<String>::new());
+    }
+
+    #[test]
+    fn every_wrong_replay_is_caught_by_the_folder() {
+        assert!(traces::wrong::run(&folder::cases().expect("the folder")));
+    }
+
+    #[test]
+    fn random_traces_reach_all_that_is_on_the_list() {
+        assert!(many::run(&Tested::Model, sums::ENOUGH, 3));
     }
 }

@@ -1,6 +1,7 @@
-//! The six calls over plain buffers. Each answers a refusal number (0 granted); what else it
+//! The six calls and the writer over plain buffers. Each answers a refusal number (0 granted); what else it
 //! answers goes through the numbers lent last, which every call writes.
 
+use crate::model::record::Record;
 use crate::model::setting::Setting;
 
 #[allow(clippy::too_many_arguments)]
@@ -43,6 +44,9 @@ pub trait Library {
     fn ask(&self, table: &[u8], asked: u32, state: &mut u32) -> u32;
 
     fn count(&self, table: &[u8], block: u32, count: &mut u32) -> u32;
+
+    /// Writes a record into the buffer's first bytes. length: the record's.
+    fn record(&self, buffer: &mut [u8], record: &Record, length: &mut u32) -> u32;
 
     /// What the last call did to bytes that were not lent to be written, where that is watched.
     fn harm(&self) -> Option<&'static str> {

@@ -6,6 +6,7 @@
 
 use super::board::raw::*;
 use crate::library::calls::Library;
+use crate::model::record::Record;
 use std::cell::{Cell, RefCell};
 
 /// Bytes watched before and after a buffer.
@@ -56,6 +57,7 @@ struct Places {
     handed: Lent,
     data: Lent,
     named: Lent,
+    record: Lent,
 }
 
 #[derive(Default)]
@@ -85,7 +87,7 @@ fn bytes_of(numbers: &[u32]) -> Vec<u8> {
     numbers.iter().flat_map(|number| number.to_ne_bytes()).collect()
 }
 
-// Safety, for all six: every pointer is to a place that lives through the call and has the length that is passed with it, or comes
+// Safety, for all of them: every pointer is to a place that lives through the call and has the length that is passed with it, or comes
 // from a reference; names are aligned.
 impl Library for Linked {
     fn open(&self, table: &mut [u8], first: u32) -> u32 {
@@ -179,6 +181,30 @@ impl Library for Linked {
         let Places { table: place, .. } = &mut *self.places.borrow_mut();
         let refusal = unsafe { board_count(place.place(table, 1), table.len(), block, count) };
         self.settle(&mut [], &[(place, table)]);
+        refusal
+    }
+
+    fn record(&self, buffer: &mut [u8], record: &Record, length: &mut u32) -> u32 {
+        let Places { record: place, data: d, named: n, .. } = &mut *self.places.borrow_mut();
+        let (at, len) = (place.place(buffer, 1), buffer.len());
+        let (mut data, mut names) = (&[][..], Vec::new());
+        let refusal = match record {
+            Record::Open { first } => unsafe { board_record_open(at, len, *first, length) },
+            Record::Create { block, offset, named, data: given } => {
+                (data, names) = (given, bytes_of(named));
+                let (bytes, numbers) = (d.place(data, 7), n.place(&names, 4).cast::<u32>());
+                let (bytes_len, many) = (data.len(), named.len());
+                unsafe {
+                    board_record_create(at, len, *block, *offset, bytes, bytes_len, numbers, many, length)
+                }
+            }
+            Record::Write { block } => unsafe { board_record_write(at, len, *block, length) },
+            Record::Complete { block } => unsafe { board_record_complete(at, len, *block, length) },
+            Record::Cut { landed } => unsafe { board_record_cut(at, len, *landed, length) },
+        };
+        let read: &[(&Lent, &[u8])] =
+            if matches!(record, Record::Create { .. }) { &[(d, data), (n, &names)] } else { &[] };
+        self.settle(&mut [(place, buffer)], read);
         refusal
     }
 

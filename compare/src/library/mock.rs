@@ -3,6 +3,8 @@
 
 use crate::library::calls::Library;
 use crate::model::bytes::{TABLE_BYTES, decode, encode, mask};
+use crate::model::record::{HEAD_BYTES, LONGEST_VALUE, Record};
+use crate::model::replay::BAD;
 use crate::model::rules::Model;
 use crate::model::setting::Setting;
 use crate::model::table::Refusal::NotSound;
@@ -107,6 +109,17 @@ impl<M: Model> Library for Mock<M> {
                 0
             }
         }
+    }
+
+    fn record(&self, buffer: &mut [u8], record: &Record, length: &mut u32) -> u32 {
+        *length = 0;
+        if buffer.len() != HEAD_BYTES + LONGEST_VALUE {
+            return Refusal::BufferSize.number();
+        }
+        let Some(bytes) = record.bytes() else { return BAD };
+        buffer[..bytes.len()].copy_from_slice(&bytes);
+        *length = bytes.len() as u32;
+        0
     }
 }
 

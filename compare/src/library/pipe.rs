@@ -2,6 +2,7 @@
 //! Works on any processor that can run the program, under an emulator or not.
 
 use crate::library::calls::Library;
+use crate::model::record::Record;
 use crate::model::table::Kind;
 use std::cell::{Cell, RefCell};
 use std::io::{BufReader, BufWriter, Read, Result, Write};
@@ -18,6 +19,23 @@ enum Lend<'a> {
 }
 
 use Lend::{No, ToRead, ToWrite};
+
+/// What is asked for: a call, or the record with a tag.
+#[derive(Clone, Copy, Debug)]
+enum Asked {
+    Call(Kind),
+    Record(u8),
+}
+
+impl Asked {
+    /// As serve.c numbers them.
+    fn kind(self) -> u32 {
+        match self {
+            Asked::Call(kind) => kind as u32,
+            Asked::Record(tag) => 5 + u32::from(tag),
+        }
+    }
+}
 
 /// What the pipe brings back besides the buffers.
 struct Answer {
@@ -63,21 +81,21 @@ impl Pipe {
     /// Makes one call. A pipe that breaks ends the run: there is no library any more.
     fn call(
         &self,
-        kind: Kind,
+        asked: Asked,
         numbers: [u32; 2],
         lent: [Lend; BUFFERS],
         data: &[u8],
         named: &[u32],
     ) -> Answer {
         let mut server = self.server.borrow_mut();
-        match server.ask(kind, numbers, &lent, data, named).and_then(|()| server.answer(lent)) {
+        match server.ask(asked, numbers, &lent, data, named).and_then(|()| server.answer(lent)) {
             Ok(answer) => {
                 self.harm.set(answer.harm);
                 self.took.set(answer.took);
                 answer
             }
             Err(error) => {
-                println!("the program behind the pipe gave no answer to {kind:?}: {error}");
+                println!("the program behind the pipe gave no answer to {asked:?}: {error}");
                 println!("FAILED");
                 std::process::exit(1);
             }
@@ -88,13 +106,13 @@ impl Pipe {
 impl Server {
     fn ask(
         &mut self,
-        kind: Kind,
+        asked: Asked,
         numbers: [u32; 2],
         lent: &[Lend; BUFFERS],
         data: &[u8],
         named: &[u32],
     ) -> Result<()> {
-        for number in [kind as u32, numbers[0], numbers[1]] {
+        for number in [asked.kind(), numbers[0], numbers[1]] {
             self.put(number)?;
         }
         for (which, lend) in lent.iter().enumerate() {
@@ -180,7 +198,7 @@ fn changed_part(old: &[u8], new: &[u8]) -> (usize, usize) {
 
 impl Library for Pipe {
     fn open(&self, table: &mut [u8], first: u32) -> u32 {
-        self.call(Kind::Open, [first, 0], [ToWrite(table), No, No, No], &[], &[]).refusal
+        self.call(Asked::Call(Kind::Open), [first, 0], [ToWrite(table), No, No, No], &[], &[]).refusal
     }
 
     fn create(
@@ -196,7 +214,7 @@ impl Library for Pipe {
         hold: &mut u32,
     ) -> u32 {
         let lent = [ToWrite(table), ToWrite(image), ToWrite(undo), No];
-        let answer = self.call(Kind::Create, [block, offset], lent, data, named);
+        let answer = self.call(Asked::Call(Kind::Create), [block, offset], lent, data, named);
         (*number, *hold) = (answer.number, answer.hold);
         answer.refusal
     }
@@ -211,24 +229,37 @@ impl Library for Pipe {
         set: &mut u64,
     ) -> u32 {
         let lent = [ToWrite(table), ToRead(image), ToRead(undo), ToWrite(handed)];
-        let answer = self.call(Kind::Write, [block, 0], lent, &[], &[]);
+        let answer = self.call(Asked::Call(Kind::Write), [block, 0], lent, &[], &[]);
         *set = answer.set;
         answer.refusal
     }
 
     fn complete(&self, table: &mut [u8], block: u32) -> u32 {
-        self.call(Kind::Complete, [block, 0], [ToWrite(table), No, No, No], &[], &[]).refusal
+        self.call(Asked::Call(Kind::Complete), [block, 0], [ToWrite(table), No, No, No], &[], &[]).refusal
     }
 
     fn ask(&self, table: &[u8], asked: u32, state: &mut u32) -> u32 {
-        let answer = self.call(Kind::Ask, [asked, 0], [ToRead(table), No, No, No], &[], &[]);
+        let answer = self.call(Asked::Call(Kind::Ask), [asked, 0], [ToRead(table), No, No, No], &[], &[]);
         *state = answer.state;
         answer.refusal
     }
 
     fn count(&self, table: &[u8], block: u32, count: &mut u32) -> u32 {
-        let answer = self.call(Kind::Count, [block, 0], [ToRead(table), No, No, No], &[], &[]);
+        let answer = self.call(Asked::Call(Kind::Count), [block, 0], [ToRead(table), No, No, No], &[], &[]);
         *count = answer.count;
+        answer.refusal
+    }
+
+    fn record(&self, buffer: &mut [u8], record: &Record, length: &mut u32) -> u32 {
+        let (numbers, data, named) = match record {
+            Record::Open { first } => ([*first, 0], &[][..], &[][..]),
+            Record::Create { block, offset, named, data } => ([*block, *offset], &data[..], &named[..]),
+            Record::Write { block } | Record::Complete { block } => ([*block, 0], &[][..], &[][..]),
+            Record::Cut { landed } => ([(landed >> 32) as u32, *landed as u32], &[][..], &[][..]),
+        };
+        let lent = [No, No, No, ToWrite(buffer)];
+        let answer = self.call(Asked::Record(record.tag()), numbers, lent, data, named);
+        *length = answer.count;
         answer.refusal
     }
 
