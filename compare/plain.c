@@ -421,7 +421,7 @@ static uint8_t *put_high_first(uint8_t *p, uint64_t n, unsigned bytes)
 static uint32_t put_record(uint8_t *record, size_t record_len, uint8_t tag, uint64_t value, unsigned bytes, uint32_t *length)
 {
     *length = 0;
-    if (record_len != BOARD_RECORD)
+    if (record_len != BOARD_RECORD_BYTES)
         return BOARD_BUFFER_SIZE;
     if (bytes < 8 && value >> 8 * bytes != 0)
         return BOARD_NO_RECORD;
@@ -440,7 +440,7 @@ uint32_t board_record_create(uint8_t *record, size_t record_len, uint32_t block,
                              size_t bytes_len, const uint32_t *named, size_t named_len, uint32_t *length)
 {
     *length = 0;
-    if (record_len != BOARD_RECORD)
+    if (record_len != BOARD_RECORD_BYTES)
         return BOARD_BUFFER_SIZE;
     if (block > 255 || offset > 65535 || named_len > 255 || bytes_len > LONGEST_VALUE - 4 - 4 * named_len)
         return BOARD_NO_RECORD;

@@ -42,6 +42,16 @@ behind c f rest =
     drop-at (recordOf c) rest (3 + numberAt (recordOf c ++ rest) 1 2)
     (length-record c ∙ ap (λ (n : ℕ). 3 + n) (sym (head-size c rest (omega (arith, length-short c f)))))
 
+-- bytes begin with one record at most
+pub begins-one : {c d : Call} {rest more : List ℕ} → Fits c → Fits d → recordOf c ++ rest ≡ recordOf d ++ more → (c ≡ d) × (rest ≡ more)
+begins-one {c} {d} {rest} {more} f g e =
+    let a = back c f rest in
+    let b = back d g more in
+    let same : a .found ≡ b .found = same-found (sym (a .next) ∙ ap nextIn e ∙ b .next) in (
+      sym (a .call) ∙ ap₂ callIn e same ∙ b .call,
+      sym (behind c f rest) ∙ ap (λ (w : List ℕ). drop (3 + numberAt w 1 2) w) e ∙ behind d g more,
+    )
+
 read-back : (cs : List Call) → AllFit cs → Taken (traceOf cs) cs
 unfolding traceOf
 read-back [] round.none = round.none

@@ -3,3 +3,4 @@ pub mod Counts
 pub mod Run
 pub mod Printed
 pub mod Seen
+pub mod Replayed
