@@ -43,7 +43,7 @@ pub fn make_open(kept: Kept, first: u32) -> Made
     let changes = kept.changes;
     Made {
         kept: Kept {
-            phase: Phase::Opened,
+            phase: Phase::Opened, // refused or not
             place: plus(kept.place, 1),
             table,
             changes,
