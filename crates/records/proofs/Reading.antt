@@ -120,7 +120,8 @@ module _ (w : List ℕ) (b : AllIn 1 w) where
 
   -- a create's value: block, offset, how many numbers, the numbers, the data
   create-value : (m d : ℕ) → numberAt w 6 1 ≡ m → 7 + 4 * m + d ≤ length w
-      → highFirst 1 (numberAt w 3 1) ++ (highFirst 2 (numberAt w 4 2) ++ (highFirst 1 (length (numbersAt w 7 m)) ++ (fourEach (numbersAt w 7 m) ++ part w (7 + 4 * m) d)))
+      → highFirst 1 (numberAt w 3 1)
+      ++ (highFirst 2 (numberAt w 4 2) ++ (highFirst 1 (length (numbersAt w 7 m)) ++ (fourEach (numbersAt w 7 m) ++ part w (7 + 4 * m) d)))
       ≡ part w 3 (4 + 4 * m + d)
   create-value m d e l =
       let whole : 4 + 4 * m + d ≡ 1 + (2 + (1 + (4 * m + d))) = omega arith in

@@ -73,7 +73,10 @@ returns c =
     let past-offset = laid 4 (highFirst 2 (a .offset)) past-block (offset .put-two .ensures) refl in
     let past-many = laid 6 (highFirst 1 (length (now (a .named)))) past-offset (many .put-one2 .ensures) refl in
     let past-numbers = laid 7 (fourEach (now (a .named))) past-many (numbers .put-numbers .ensures) refl in
-    let past-bytes = laid (7 + 4 * length (now (a .named))) (now (a .bytes)) past-numbers (last .copy .ensures ∙ rw (part-whole (now (a .bytes)), zero-add (7 + 4 * length (now (a .named))))) (omega (arith, length-each (now (a .named)))) in
+    let n = 7 + 4 * length (now (a .named)) in
+    let past-bytes =
+    laid n (now (a .bytes)) past-numbers (last .copy .ensures ∙ rw (part-whole (now (a .bytes)), zero-add n))
+    (omega (arith, length-each (now (a .named)))) in
     past-bytes .is ∙ ap (λ (ys : List ℕ). splice (now (a .buffer)) 0 ys) (create-laid change _ refl)
 
 pub put-create-spec : {M : Type 1} → statement M

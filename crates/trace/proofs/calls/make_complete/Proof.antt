@@ -30,7 +30,8 @@ returns c =
     let called = counted .before .before .before in
     let on = called .before in
     let k = on .before .before .before .args .kept in
-    complete-made k (counted .plus .ensures) (called .complete .result) (called .complete .ensures) (c .plain-number .ensures) (on .patches-on .ensures .in-flight)
+    complete-made k (counted .plus .ensures) (called .complete .result) (called .complete .ensures) (c .plain-number .ensures)
+    (on .patches-on .ensures .in-flight)
     (left .changes-left .ensures) (committed .now-committed .ensures)
 
 pub make-complete-spec : {M : Type 1} → statement M

@@ -24,7 +24,8 @@ returns c =
     let sum = counted .before in
     let landed = sum .before in
     let k = landed .before .before .before .before .args .kept in
-    cut-made k (counted .plus .ensures) (c .plus2 .ensures ∙ ap (plus (k .committed)) (sum .carried .ensures ∙ ap (carried (k .changes)) (landed .cut-landing .ensures)))
+    cut-made k (counted .plus .ensures)
+    (c .plus2 .ensures ∙ ap (plus (k .committed)) (sum .carried .ensures ∙ ap (carried (k .changes)) (landed .cut-landing .ensures)))
 
 pub make-cut-spec : {M : Type 1} → statement M
 make-cut-spec =

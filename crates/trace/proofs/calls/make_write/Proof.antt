@@ -26,8 +26,8 @@ returns c =
     let counted = number .before in
     let called = counted .before .before .before .before in
     let a = called .before .before .before .before .before .args in
-    write-made (a .kept) (counted .plus .ensures) (now (a .image)) (now (a .undo)) (called .write .result) (called .write .ensures) (number .write-number .ensures)
-    (c .write-more .ensures)
+    write-made (a .kept) (counted .plus .ensures) (now (a .image)) (now (a .undo)) (called .write .result) (called .write .ensures)
+    (number .write-number .ensures) (c .write-more .ensures)
 
 pub make-write-spec : {M : Type 1} → statement M
 make-write-spec =

@@ -18,7 +18,9 @@ enum-told-2 : tie.Need-enum-told-2
 enum-told-2 c = search needs
 
 returns : tie.Need-returns
-returns c = rw (c .before .before .enum-told .given .1) (c .plus .ensures ∙ ap (plus (c .before .before .before .before .args .committed)) (c .before .carried .ensures))
+returns c =
+    let sum = c .before in
+    rw (sum .before .enum-told .given .1) (c .plus .ensures ∙ ap (plus (sum .before .before .before .args .committed)) (sum .carried .ensures))
 
 returns-2 : tie.Need-returns-2
 returns-2 c = search needs

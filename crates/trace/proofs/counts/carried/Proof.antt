@@ -42,7 +42,8 @@ loop-again c =
     let at = c .before .before .before in
     let i = at .loop in (
       omega arith,
-      c .plus .ensures ∙ ap₂ plus (i .inv .1) (c .before .carried-in .ensures) ∙ ap (carriedBelow (at .before .args .t1) (at .before .args .set)) (sym (add-one (i .i))),
+      c .plus .ensures ∙ ap₂ plus (i .inv .1) (c .before .carried-in .ensures)
+          ∙ ap (carriedBelow (at .before .args .t1) (at .before .args .set)) (sym (add-one (i .i))),
     )
 
 returns : tie.Need-returns Inv-loop μ-loop

@@ -50,7 +50,8 @@ loop-again c =
     let i = at .loop in
     let a = at .before .args in (
       omega arith,
-      c .with-if .ensures ∙ with-if-below (landsAt (a .t1) (a .bits)) (i .i) (i .landed) (lands .lands .result) (i .inv .1) (omega arith) (lands .lands .ensures),
+      c .with-if .ensures
+          ∙ with-if-below (landsAt (a .t1) (a .bits)) (i .i) (i .landed) (lands .lands .result) (i .inv .1) (omega arith) (lands .lands .ensures),
     )
 
 returns : tie.Need-returns Inv-loop μ-loop

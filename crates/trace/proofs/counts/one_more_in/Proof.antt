@@ -25,7 +25,8 @@ returns-3 c =
     let t = c .before in
     let e = t .before .before in
     let a = e .before .before .args in
-    rw (sym (e .before .is-used .ensures) ∙ not-false (e .before .is-used .result) (e .if1 .left), eq-eqb (a .s .number) (a .number) (t .if2 .left)) (c .plus .ensures)
+    let used = sym (e .before .is-used .ensures) ∙ not-false (e .before .is-used .result) (e .if1 .left) in
+    rw (used, eq-eqb (a .s .number) (a .number) (t .if2 .left)) (c .plus .ensures)
 
 pub one-more-in-spec : {M : Type 1} → statement M
 one-more-in-spec = tie.close (tie.spec is-used-requires returns returns-2 plus-requires returns-3)

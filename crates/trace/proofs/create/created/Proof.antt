@@ -76,7 +76,9 @@ returns c =
     let ends = there read in
     let left : length w - (7 + 4 * n) ≡ a .head .bytes = omega (arith, ends .1) in
     let numbers = ap (take n) (read .numbers-in .ensures) ∙ first-in w n (ends .0) (omega (arith, ends .1)) in
-    subst (λ (x : Change). Creates (seen (a .t)) (now (a .image)) (now (a .undo)) x (creation (made .create .result) (made .create .last .1 .0) (made .create .last .1 .1 .0)))
+    let lent = made .create .last .1 in
+    let o = creation (made .create .result) (lent .0) (lent .1 .0) in
+    subst (λ (x : Change). Creates (seen (a .t)) (now (a .image)) (now (a .undo)) x o)
     (same-change (ap (λ (m : ℕ). take m (drop (7 + 4 * n) w)) left) numbers) (made .create .ensures)
 
 pub created-spec : {M : Type 1} → statement M

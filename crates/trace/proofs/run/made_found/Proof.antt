@@ -40,7 +40,8 @@ returns-2 c =
     let known = o .before in
     let s = known .before .before .before in
     let w = now (s .args .bytes) in
-    takes-found (runOf (s .args .kept) (now (s .args .image)) (now (s .args .undo))) w (λ i l. omega (arith, known .shared-slice-known .given i)) (s .args .found) (s .pre)
+    let r = runOf (s .args .kept) (now (s .args .image)) (now (s .args .undo)) in
+    takes-found r w (λ i l. omega (arith, known .shared-slice-known .given i)) (s .args .found) (s .pre)
     (sym (o .is-in-order .ensures w) ∙ not-false (o .is-in-order .result) (e .if1 .left)) _ (made .made-call .ensures)
 
 pub made-found-spec : {M : Type 1} → statement M

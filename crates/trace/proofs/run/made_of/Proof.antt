@@ -54,13 +54,15 @@ returns-2 : tie.Need-returns-2
 returns-2 c =
     let found = c .before .before .before in
     let s = found .before .before .before .before in
-    stops-none (runOf (s .args .kept) (now (s .args .image)) (now (s .args .undo))) (now (s .args .bytes)) _ (sym (found .only-in .ensures)) (none c) _ (c .made-bad .ensures _ _)
+    let r = runOf (s .args .kept) (now (s .args .image)) (now (s .args .undo)) in
+    stops-none r (now (s .args .bytes)) _ (sym (found .only-in .ensures)) (none c) _ (c .made-bad .ensures _ _)
 
 returns-3 : tie.Need-returns-3
 returns-3 c =
     let found = c .before .before .before in
     let s = found .before .before .before .before in
-    stops-none (runOf (s .args .kept) (now (s .args .image)) (now (s .args .undo))) (now (s .args .bytes)) _ (sym (found .only-in .ensures)) (none2 c) _ (c .made-bad2 .ensures _ _)
+    let r = runOf (s .args .kept) (now (s .args .image)) (now (s .args .undo)) in
+    stops-none r (now (s .args .bytes)) _ (sym (found .only-in .ensures)) (none2 c) _ (c .made-bad2 .ensures _ _)
 
 pub made-of-spec : {M : Type 1} → statement M
 made-of-spec =
