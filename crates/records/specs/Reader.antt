@@ -1,5 +1,5 @@
--- What the reader finds at the start of lent bytes: a record, none yet, or what no record begins with. It is worked out from the bytes; the theorems of
--- proofs/ tie it to what a record is.
+-- Between crates, need not be believed: what the reader finds at the start of lent bytes (a record, none yet, or what no record begins with), worked out
+-- from the bytes. RoundTrip.antt says what its answers mean.
 use Prim.Native.Nat.{ℕ, zero, suc, _+_, _-_, _*_, _/_, min}
 use mathlib.Core.Bool.{Bool, true, false, cond, not, _&&_}
 use mathlib.Core.List.{List, [], _∷_, _++_}

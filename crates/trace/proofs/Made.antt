@@ -24,7 +24,8 @@ use Rattle.trace.specs.declared.types.Made.{Made}
 use Rattle.trace.specs.Counts.{plus, carried, cutLanding}
 use Rattle.trace.specs.Run.{Makes, makes-open, makes-create, makes-write, makes-complete, makes-cut, changesAfter, createMore, writeMore, blank}
 use Rattle.trace.specs.Run.{changesLeft, nowCommitted, onStore}
-use Rattle.trace.specs.Seen.{runOf, stepOf, MakesAlone}
+use Rattle.trace.specs.Seen.{runOf}
+use Rattle.trace.specs.Inside.{stepOf, MakesAlone}
 
 -- what every call of the code puts together
 abbrev pub madeOf : Kept → Phase → ℕ → Table → List ℕ → ℕ → Word → ℕ → More → Made

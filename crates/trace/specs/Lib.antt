@@ -3,4 +3,5 @@ pub mod Counts
 pub mod Run
 pub mod Printed
 pub mod Seen
+pub mod Inside
 pub mod Replayed
