@@ -1,22 +1,22 @@
 -- READING BACK WHAT WAS WRITTEN: the record of a call that fits is found, whatever comes after it, and it is that call's. Assumes nothing.
 use Prim.Native.Nat.{ℕ, zero, suc, _+_, _*_, _-_, _≤_}
 use mathlib.Core.Path.{_≡_, refl, sym, ap, _∙_}
-use mathlib.Core.Bool.{true, false}
-use mathlib.Core.List.{List, [], _∷_, _++_, append-assoc, append-nil}
+use mathlib.Core.Bool.{true}
+use mathlib.Core.List.{List, [], _∷_, _++_, append-assoc}
 use native.Mathlib.Nat.{add-zero, add-assoc}
 use native.Mathlib.Omega.{arith}
-use borrow.Author.Tests.{lt-ltb, le-ltb, le-leb}
-use lib.ListN.{length, getD, take, drop, length-append}
+use borrow.Author.Tests.{le-ltb, le-leb}
+use lib.ListN.{length, length-append}
 use lib.Seq.{getD-append-add, take-append-seam, drop-at}
 use Rattle.ground.proofs.Decided.{true-and}
 use Rattle.spans.specs.Spans.{part}
-use Rattle.rules.specs.Create.{Change, changeOf}
+use Rattle.rules.specs.Create.{Change}
 use Rattle.records.specs.declared.types.Found.{Found}
 use Rattle.records.specs.declared.types.Found.the-variants as found
 use Rattle.records.specs.declared.types.Next.the-variants as next
 use Rattle.records.specs.Record.{Call, opens, creates, writes, completes, cuts, highFirst, fourEach, tagOf, valueOf, recordOf, In, AllIn, Fits}
 use Rattle.records.specs.Record.{CreateFits, mostValue}
-use Rattle.records.specs.Reader.{numberAt, numbersAt, formed, createIn, valueIn, nextIn, onlyIn, callIn}
+use Rattle.records.specs.Reader.{numberAt, numbersAt, formed, createIn, valueIn, nextIn, callIn}
 use Rattle.records.proofs.Values.{length-value, length-each}
 use Rattle.records.proofs.Reading.{length-record}
 

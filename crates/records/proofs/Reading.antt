@@ -1,29 +1,24 @@
 -- READING AND WRITING. What the reader finds is a call that fits, with the bytes of its record; and the record of every call that fits is found, whatever
 -- comes after it. Assumes nothing.
-use Prim.Native.Nat.{ℕ, zero, suc, _+_, _-_, _*_, _/_, _%_, _^_, _≤_, _<_, min}
+use Prim.Native.Nat.{ℕ, zero, suc, _+_, _-_, _*_, _/_, _%_, _≤_, _<_, min}
 use mathlib.Core.Path.{_≡_, refl, sym, ap, ap₂, subst, _∙_}
-use mathlib.Core.Bool.{Bool, true, false, cond, not}
-use mathlib.Core.List.{List, [], _∷_, _++_, append-assoc, append-nil}
-use native.Mathlib.Nat.{add-zero, add-assoc}
+use mathlib.Core.Bool.{Bool, true, false, cond}
+use mathlib.Core.List.{List, [], _∷_, _++_}
+use native.Mathlib.Nat.{add-zero}
 use native.Mathlib.Omega.{arith}
-use borrow.Author.Tests.{lt-ltb, le-ltb, le-leb, ltb-false, not-false}
+use borrow.Author.Tests.{ltb-false}
 use lib.Dec.{ltb}
-use lib.ListN.{length, getD, take, drop, length-append, length-drop, replicate, length-replicate, List·getD-append, take-append-drop}
-use lib.Seq.{take-suc, take-add, drop-drop, getD-drop, getD-append-add, take-at, drop-at, take-length}
-use Rattle.ground.proofs.Decided.{true-and}
+use lib.ListN.{length, getD, take, drop, length-append, length-drop, replicate, length-replicate}
+use lib.Seq.{take-suc, take-add, drop-drop, getD-drop, take-at}
 use Rattle.spans.specs.Spans.{part}
-use Rattle.spans.proofs.Laws.{length-part, part-in, part-whole}
-use Rattle.rules.specs.Create.{Change, changeOf}
+use Rattle.spans.proofs.Laws.{length-part, part-in}
 use Rattle.records.specs.declared.types.Head.{Head}
 use Rattle.records.specs.declared.types.Found.{Found}
 use Rattle.records.specs.declared.types.Found.the-variants as found
 use Rattle.records.specs.declared.types.Next.{Next}
 use Rattle.records.specs.declared.types.Next.the-variants as next
 use Rattle.records.specs.Record.{Call, opens, creates, writes, completes, cuts, highFirst, fourEach, tagOf, valueOf, recordOf, In, AllIn, Fits}
-use Rattle.records.specs.Record.{CreateFits, SizesFit}
-use Rattle.records.specs.Reader.{numberAt, numbersAt, formed, createIn, valueIn, nextIn, numbersIn, callIn}
-use Rattle.records.proofs.Numbers.{number-1}
-use Rattle.records.proofs.Values.{length-value, length-each}
+use Rattle.records.specs.Reader.{numberAt, numbersAt, createIn, valueIn, nextIn, numbersIn, callIn}
 use Rattle.records.proofs.Found.{next-by}
 use Rattle.records.proofs.Forms.{Form, open-form, create-form, write-form, complete-form, cut-form, form}
 

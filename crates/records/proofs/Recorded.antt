@@ -10,7 +10,7 @@ use Rattle.rules.proofs.Cases.{holds, passes, none-holds}
 use Rattle.rules.proofs.Outcomes.{refuses, grants}
 use Rattle.records.specs.declared.types.Recorded.the-variants as recorded
 use Rattle.records.specs.Record.{Call, recordOf, recordBytes, Fits}
-use Rattle.records.specs.Writer.{Recording, recording, recordRefused, recordGranted, Records}
+use Rattle.records.specs.Writer.{recording, recordRefused, Records}
 
 module _ (c : Call) {buffer : List ℕ} where
   pub wrong-size : WrongSize recordBytes buffer → Records buffer c (recordRefused buffer 1)

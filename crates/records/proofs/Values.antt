@@ -1,5 +1,5 @@
 -- The value of a create's record: how long it is, and its numbers one after the other. Assumes nothing.
-use Prim.Native.Nat.{ℕ, zero, suc, _+_, _*_, _<_}
+use Prim.Native.Nat.{ℕ, _+_, _*_, _<_}
 use mathlib.Core.Path.{_≡_, refl, sym, ap, _∙_}
 use mathlib.Core.List.{List, [], _∷_, _++_, append-assoc, append-nil}
 use native.Mathlib.Numerals.{add-one}
@@ -7,7 +7,7 @@ use native.Mathlib.Omega.{arith}
 use lib.ListN.{length, getD, take, length-append}
 use lib.Seq.{take-suc}
 use Rattle.rules.specs.Create.{Change}
-use Rattle.records.specs.Record.{Call, creates, highFirst, fourEach, valueOf, recordOf}
+use Rattle.records.specs.Record.{creates, highFirst, fourEach, valueOf, recordOf}
 use Rattle.records.proofs.Numbers.{length-4}
 
 pub length-each : (ns : List ℕ) → length (fourEach ns) ≡ 4 * length ns

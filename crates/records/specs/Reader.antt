@@ -1,13 +1,12 @@
 -- Between crates, need not be believed: what the reader finds at the start of lent bytes (a record, none yet, or what no record begins with), worked out
 -- from the bytes. RoundTrip.antt says what its answers mean.
 use Prim.Native.Nat.{ℕ, zero, suc, _+_, _-_, _*_, _/_, min}
-use mathlib.Core.Bool.{Bool, true, false, cond, not, _&&_}
+use mathlib.Core.Bool.{Bool, false, cond, not, _&&_}
 use mathlib.Core.List.{List, [], _∷_, _++_}
 use lib.Dec.{eqb, ltb, leb}
 use lib.ListN.{length, getD, replicate}
 use Rattle.spans.specs.Spans.{part}
 use Rattle.rules.specs.Create.{changeOf}
-use Rattle.records.specs.declared.types.Head.{Head}
 use Rattle.records.specs.declared.types.Found.{Found}
 use Rattle.records.specs.declared.types.Found.the-variants as found
 use Rattle.records.specs.declared.types.Next.{Next}

@@ -24,7 +24,7 @@ pub enum Found {
 }
 
 // What lent bytes begin with: a record; none yet, and how many bytes are still to come before more can
-// be said; or what no record begins with.
+// be said; or what no record begins with (16).
 pub enum Next {
     Record(Found),
     NoneYet(usize),

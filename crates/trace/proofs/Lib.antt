@@ -3,3 +3,4 @@ pub mod Made
 pub mod Taken
 pub mod OneAnswer
 pub mod Printed
+pub mod Example

@@ -2,11 +2,10 @@
 use Prim.Native.Nat.{ℕ}
 use mathlib.Core.Path.{_≡_, refl, sym, ap, subst, _∙_}
 use mathlib.Core.Bool.{Bool}
-use mathlib.Core.List.{List, [], append-nil}
+use mathlib.Core.List.{List, append-nil}
 use lib.ListN.{length}
 use Rattle.spans.specs.Spans.{splice}
 use Rattle.rules.specs.declared.Setting.the-variants.{Board}
-use Rattle.rules.specs.Calls.{Opening, Creation, Writing, Completion}
 use Rattle.rules.proofs.OneAnswer.{open-one, create-one, write-one, complete-one}
 use Rattle.records.specs.Record.{Call}
 use Rattle.records.proofs.RoundTrip.{begins-one}
@@ -15,7 +14,7 @@ use Rattle.trace.specs.declared.types.Kept.{Kept}
 use Rattle.trace.specs.declared.types.Stepped.{Stepped}
 use Rattle.trace.specs.Run.{Run, Step, Makes, makes-open, makes-create, makes-write, makes-complete, makes-cut, Good, Steps, takes, stops}
 use Rattle.trace.specs.Run.{afterOpen, afterCreate, afterWrite, afterComplete, blank}
-use Rattle.trace.specs.Seen.{runOf, isBad, StepCall}
+use Rattle.trace.specs.Seen.{isBad, StepCall}
 
 -- what is kept is read off the run
 keptOf : Run → Kept

@@ -3,25 +3,21 @@
 use Prim.Native.Nat.{ℕ, _+_, _<_}
 use mathlib.Core.Path.{_≡_, refl, sym, ap, ap₂, subst, _∙_}
 use mathlib.Core.Bool.{true, false}
-use mathlib.Core.List.{List, [], _∷_, _++_, append-nil}
+use mathlib.Core.List.{List, [], _++_}
 use native.Mathlib.Omega.{arith}
-use lib.ListN.{length, getD, length-append, List·getD-append}
+use lib.ListN.{length, length-append, List·getD-append}
 use lib.Seq.{getD-append-add}
 use Rattle.ground.proofs.Decided.{clash}
-use Rattle.records.specs.declared.types.Found.{Found}
-use Rattle.records.specs.declared.types.Next.the-variants as next
 use Rattle.records.specs.Record.{Call, recordOf, AllIn}
-use Rattle.records.specs.Reader.{nextIn, onlyIn, callIn}
 use Rattle.records.specs.RoundTrip.{Begins}
 use Rattle.records.proofs.Reading.{length-record}
 use Rattle.records.proofs.RoundTrip.{begins-one, reader-means}
 use Rattle.records.proofs.Only.{only-record}
 use Rattle.lines.specs.Line.{textOf}
 use Rattle.trace.specs.Run.{Run, Step, Makes, makes-open, makes-create, makes-write, makes-complete, makes-cut, Good, Steps, takes, stops, afterBad}
-use Rattle.trace.specs.Run.{begun}
 use Rattle.trace.specs.Seen.{isBad}
 use Rattle.trace.specs.Printed as prints
-use Rattle.trace.specs.Printed.{Ended, GoesOn, Prints, Printed}
+use Rattle.trace.specs.Printed.{Ended, GoesOn, Prints}
 use Rattle.trace.specs.Replayed as replays
 use Rattle.trace.specs.Replayed.{TakenUp, Replays, LinesArePrinted}
 use Rattle.trace.proofs.OneAnswer.{makes-one}

@@ -7,7 +7,7 @@ use Rattle.ground.proofs.Decided.{clash}
 use Rattle.records.specs.declared.types.Found.{Found}
 use Rattle.records.specs.declared.types.Next.{Next}
 use Rattle.records.specs.declared.types.Next.the-variants as next
-use Rattle.records.specs.Record.{Call, recordOf, AllIn}
+use Rattle.records.specs.Record.{Call, AllIn}
 use Rattle.records.specs.Reader.{onlyIn, callIn}
 use Rattle.records.proofs.RoundTrip.{isRecord, same-found}
 use Rattle.records.proofs.Only.{only-record, only-back}

@@ -3,8 +3,7 @@ use Prim.Native.Nat.{ℕ}
 use mathlib.Core.Path.{_≡_}
 use mathlib.Core.List.{List, [], _++_}
 use Rattle.lines.specs.Line.{textOf}
-use Rattle.records.specs.Record.{Call, recordOf}
-use Rattle.trace.specs.declared.types.Phase.{Phase}
+use Rattle.records.specs.Record.{Call}
 use Rattle.trace.specs.declared.types.Phase.the-variants as phase
 use Rattle.trace.specs.Run.{Run, Step, begun, Makes, Good, afterBad}
 

@@ -8,7 +8,6 @@ use Rattle.records.specs.declared.types.Next.the-variants as next
 use Rattle.records.specs.Record.{AllIn}
 use Rattle.records.specs.Reader.{nextIn, onlyIn}
 use Rattle.lines.specs.Line.{textOf}
-use Rattle.trace.specs.declared.types.Phase.the-variants as phase
 use Rattle.trace.specs.Run.{Run, Step, begun, Steps}
 use Rattle.trace.specs.Printed.{Ended, Printed}
 use Rattle.trace.specs.Seen.{isBad}

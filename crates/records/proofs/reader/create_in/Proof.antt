@@ -4,7 +4,6 @@ use mathlib.Core.Path.{_≡_}
 use native.Mathlib.Omega.{arith}
 use borrow.Author.Tests.{lt-ltb, le-ltb}
 use denote.Ref.{now}
-use Rattle.records.specs.declared.types.Head.{Head}
 use Rattle.records.specs.declared.types.Found.the-variants as found
 use Rattle.records.specs.declared.types.Next.{Next}
 use Rattle.records.specs.declared.types.Next.the-variants as next

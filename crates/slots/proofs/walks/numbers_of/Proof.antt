@@ -1,5 +1,5 @@
 -- `slots::walks::numbers_of` meets its contract. The loop's invariant: the numbers of the slots passed stand at their places. Assumes nothing.
-use Prim.Native.Nat.{ℕ, _+_, _-_, _≤_, _<_}
+use Prim.Native.Nat.{ℕ, _-_, _≤_, _<_}
 use mathlib.Core.Path.{_≡_, refl, _∙_}
 use native.Mathlib.Omega.{arith}
 use borrow.Author.Count.{below-none}

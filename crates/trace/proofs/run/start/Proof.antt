@@ -9,7 +9,7 @@ use Rattle.rules.specs.Calls.{Opening}
 use Rattle.rules.proofs.OneAnswer.{open-one}
 use Rattle.rules.proofs.Steps.{open-row}
 use Rattle.trace.specs.declared.types.Phase.the-variants as phase
-use Rattle.trace.specs.Run.{Run, begun}
+use Rattle.trace.specs.Run.{begun}
 use borrow.Author.Needs.{needs}
 use Rattle.trace.proofs.run.start.Statement.{statement}
 use Rattle.trace.proofs.run.start.Tie as tie
