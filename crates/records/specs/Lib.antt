@@ -1,5 +1,6 @@
 -- What a record is, what the writer promises, and what the reader finds.
 pub mod Record
 pub mod Writer
+pub mod Inside
 pub mod Reader
 pub mod RoundTrip

@@ -10,6 +10,7 @@ ghost use Rattle.rules.specs.Create.{changeOf};
 ghost use Rattle.records.specs.Record.{highFirst, fourEach, recordOf, SizesFit, recordBytes};
 ghost use Rattle.records.specs.Record.{opens, creates, writes, completes, cuts};
 ghost use Rattle.records.specs.Writer.{Records, recording};
+ghost use Rattle.records.specs.Inside.{BlockRecords};
 use crate::sizes::COMPLETE;
 use crate::sizes::CREATE;
 use crate::sizes::CREATE_BYTES;
@@ -49,8 +50,9 @@ pub fn open(buffer: &mut [u8], first: u32) -> Recorded
     Recorded::Length(7)
 }
 
-pub fn write(buffer: &mut [u8], block: u32) -> Recorded
-    ensures { λ r. ⌜ Records (now (buffer .entry)) (writes block) (recording r (now (buffer .exit))) ⌝ }
+// A record whose value is a block.
+fn block_record(buffer: &mut [u8], tag: u32, block: u32) -> Recorded
+    ensures { λ r. ⌜ BlockRecords (now (buffer .entry)) tag block (recording r (now (buffer .exit))) ⌝ }
 {
     if buffer.len() != RECORD_BYTES {
         return Recorded::Refused(BUFFER_SIZE);
@@ -58,23 +60,21 @@ pub fn write(buffer: &mut [u8], block: u32) -> Recorded
     if 255 < block {
         return Recorded::Refused(NO_RECORD);
     }
-    head(buffer, WRITE, 1);
+    head(buffer, tag, 1);
     put_one(buffer, 3, block);
     Recorded::Length(4)
+}
+
+pub fn write(buffer: &mut [u8], block: u32) -> Recorded
+    ensures { λ r. ⌜ Records (now (buffer .entry)) (writes block) (recording r (now (buffer .exit))) ⌝ }
+{
+    block_record(buffer, WRITE, block)
 }
 
 pub fn complete(buffer: &mut [u8], block: u32) -> Recorded
     ensures { λ r. ⌜ Records (now (buffer .entry)) (completes block) (recording r (now (buffer .exit))) ⌝ }
 {
-    if buffer.len() != RECORD_BYTES {
-        return Recorded::Refused(BUFFER_SIZE);
-    }
-    if 255 < block {
-        return Recorded::Refused(NO_RECORD);
-    }
-    head(buffer, COMPLETE, 1);
-    put_one(buffer, 3, block);
-    Recorded::Length(4)
+    block_record(buffer, COMPLETE, block)
 }
 
 // Bit b of `landed` is set when block b's write in flight landed.

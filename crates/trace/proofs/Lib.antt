@@ -1,5 +1,5 @@
 -- What the proofs of the functions share, and what is shown of a run.
-pub mod Made
+pub mod CallsMade
 pub mod Taken
 pub mod OneAnswer
 pub mod Printed

@@ -7,17 +7,28 @@ use Rattle.spans.specs.Spans.{part}
 use Rattle.rules.specs.Table.{Table}
 use Rattle.rules.specs.Create.{changeOf}
 use Rattle.rules.specs.Calls.{Creates}
+use Rattle.cache.specs.declared.types.Table as code
 use Rattle.cache.specs.declared.types.Created.{Created}
 use Rattle.cache.specs.Seen.{creation}
 use Rattle.records.specs.declared.types.Head.{Head}
 use Rattle.records.specs.declared.types.Found.{Found}
 use Rattle.records.specs.Record.{Call}
 use Rattle.records.specs.Reader.{numbersAt, numbersStart, dataStart, callIn}
+use Rattle.lines.specs.declared.types.Word.{Word}
+use Rattle.lines.specs.declared.types.More.{More}
 use Rattle.trace.specs.declared.types.Phase.{Phase}
 use Rattle.trace.specs.declared.types.Kept.{Kept}
 use Rattle.trace.specs.declared.types.Made.{Made}
+use Rattle.trace.specs.Counts.{plus}
 use Rattle.trace.specs.Run.{Step, Makes, isOpen, inOrder, afterBad}
 use Rattle.trace.specs.Seen.{runOf}
+
+-- what every call of a record puts together: the next place, and the line of the place that is past
+abbrev pub madeOf : Kept → Phase → code.Table → List ℕ → ℕ → Word → ℕ → More → Made
+madeOf k p t changes committed w n m = record {
+  kept = record { phase = p; place = plus (k .place) 1; table = t; changes = changes; committed = committed };
+  line = record { place = k .place; word = w; number = n; more = m };
+}
 
 -- a record's call made, with the working image and the undo area
 abbrev pub stepOf : Made → List ℕ → List ℕ → Step

@@ -10,11 +10,11 @@ use crate::counts::carried;
 use crate::counts::cleared;
 use crate::counts::cut_landing;
 use crate::counts::plus;
+use crate::made::made;
 use crate::types::Kept;
 use crate::types::Made;
 use crate::types::Phase;
 use cache::types::Table;
-use lines::types::Line;
 use lines::types::More;
 use lines::types::Word;
 use rules::Answer;
@@ -42,21 +42,16 @@ pub fn make_open(kept: Kept, first: u32) -> Made
     let answer = o.answer;
     let table = o.table;
     let changes = kept.changes;
-    Made {
-        kept: Kept {
-            phase: Phase::Opened, // refused or not
-            place: plus(kept.place, 1),
-            table,
-            changes,
-            committed: kept.committed,
-        },
-        line: Line {
-            place: kept.place,
-            word: Word::Open,
-            number: plain_number(answer),
-            more: More::Nothing,
-        },
-    }
+    made(
+        kept,
+        Phase::Opened, // refused or not
+        table,
+        changes,
+        kept.committed,
+        Word::Open,
+        plain_number(answer),
+        More::Nothing,
+    )
 }
 
 // The refusal's number, or 0.
@@ -88,48 +83,16 @@ pub fn make_write(kept: Kept, image: &[u8], undo: &[u8], block: u32) -> Made
     let answer = o.answer;
     let table = o.table;
     let changes = kept.changes;
-    Made {
-        kept: Kept {
-            phase: Phase::Opened,
-            place: plus(kept.place, 1),
-            table,
-            changes,
-            committed: kept.committed,
-        },
-        line: Line {
-            place: kept.place,
-            word: Word::Write,
-            number: write_number(answer),
-            more: write_more(answer),
-        },
-    }
-}
-
-pub fn make_complete(kept: Kept, block: u32) -> Made
-    ensures { λ r. ⌜ MakesAlone kept (completes block) r ⌝ }
-{
-    let t = kept.table;
-    let slots = t.slots;
-    let on = patches_on(slots, block);
-    let o = t.complete(block);
-    let answer = o.answer;
-    let table = o.table;
-    let changes = kept.changes;
-    Made {
-        kept: Kept {
-            phase: Phase::Opened,
-            place: plus(kept.place, 1),
-            table,
-            changes: changes_left(answer, on.in_flight, changes),
-            committed: now_committed(answer, on.in_flight, changes, kept.committed),
-        },
-        line: Line {
-            place: kept.place,
-            word: Word::Complete,
-            number: plain_number(answer),
-            more: More::Nothing,
-        },
-    }
+    made(
+        kept,
+        Phase::Opened,
+        table,
+        changes,
+        kept.committed,
+        Word::Write,
+        write_number(answer),
+        write_more(answer),
+    )
 }
 
 // The changes of the slots of the set are counted as committed once these are granted their completion.
@@ -151,6 +114,28 @@ fn now_committed(answer: Answer, landed: u64, changes: [u64; SLOTS], committed: 
     }
 }
 
+pub fn make_complete(kept: Kept, block: u32) -> Made
+    ensures { λ r. ⌜ MakesAlone kept (completes block) r ⌝ }
+{
+    let t = kept.table;
+    let slots = t.slots;
+    let on = patches_on(slots, block);
+    let o = t.complete(block);
+    let answer = o.answer;
+    let table = o.table;
+    let changes = kept.changes;
+    made(
+        kept,
+        Phase::Opened,
+        table,
+        changes_left(answer, on.in_flight, changes),
+        now_committed(answer, on.in_flight, changes, kept.committed),
+        Word::Complete,
+        plain_number(answer),
+        More::Nothing,
+    )
+}
+
 // Bit b of `bits` is set when block b's write in flight landed.
 pub fn make_cut(kept: Kept, bits: u64) -> Made
     ensures { λ r. ⌜ MakesAlone kept (cuts bits) r ⌝ }
@@ -159,19 +144,14 @@ pub fn make_cut(kept: Kept, bits: u64) -> Made
     let slots = table.slots;
     let changes = kept.changes;
     let landed = carried(changes, cut_landing(slots, bits));
-    Made {
-        kept: Kept {
-            phase: Phase::Over,
-            place: plus(kept.place, 1),
-            table,
-            changes,
-            committed: kept.committed,
-        },
-        line: Line {
-            place: kept.place,
-            word: Word::Cut,
-            number: plus(kept.committed, landed),
-            more: More::Nothing,
-        },
-    }
+    made(
+        kept,
+        Phase::Over,
+        table,
+        changes,
+        kept.committed,
+        Word::Cut,
+        plus(kept.committed, landed),
+        More::Nothing,
+    )
 }

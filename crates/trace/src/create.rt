@@ -9,13 +9,12 @@ ghost use Rattle.trace.specs.Seen.{runOf};
 ghost use Rattle.trace.specs.Inside.{stepOf, CreatedBy};
 ghost use Rattle.cache.specs.Seen.{seen};
 use crate::counts::one_more;
-use crate::counts::plus;
+use crate::made::made;
 use crate::types::Kept;
 use crate::types::Made;
 use crate::types::Phase;
 use cache::types::Created;
 use cache::types::Table;
-use lines::types::Line;
 use lines::types::More;
 use lines::types::Word;
 use records::reader::numbers_in;
@@ -84,19 +83,14 @@ pub fn make_create(kept: Kept, image: &mut [u8], undo: &mut [u8], bytes: &[u8], 
     let table = o.table;
     let slots = table.slots;
     let changes = kept.changes;
-    Made {
-        kept: Kept {
-            phase: Phase::Opened,
-            place: plus(kept.place, 1),
-            table,
-            changes: changes_after(answer, slots, changes),
-            committed: kept.committed,
-        },
-        line: Line {
-            place: kept.place,
-            word: Word::Create,
-            number: create_number(answer),
-            more: create_more(answer),
-        },
-    }
+    made(
+        kept,
+        Phase::Opened,
+        table,
+        changes_after(answer, slots, changes),
+        kept.committed,
+        Word::Create,
+        create_number(answer),
+        create_more(answer),
+    )
 }

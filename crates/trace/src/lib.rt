@@ -3,5 +3,6 @@
 mod calls;
 mod counts;
 mod create;
+mod made;
 pub mod run;
 pub mod types;

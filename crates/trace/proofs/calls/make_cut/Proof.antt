@@ -1,7 +1,7 @@
 -- `calls::make_cut` meets its contract. Assumes nothing.
 use mathlib.Core.Path.{ap, _∙_}
 use Rattle.trace.specs.Counts.{plus, carried}
-use Rattle.trace.proofs.Made.{cut-made}
+use Rattle.trace.proofs.CallsMade.{cut-made}
 use borrow.Author.Needs.{needs}
 use Rattle.trace.proofs.calls.make_cut.Statement.{statement}
 use Rattle.trace.proofs.calls.make_cut.Tie as tie
@@ -15,19 +15,18 @@ carried-requires c κs = search needs
 plus-requires : tie.Need-plus-requires
 plus-requires c κs = search needs
 
-plus-requires-2 : tie.Need-plus-requires-2
-plus-requires-2 c κs = search needs
+made-requires : tie.Need-made-requires
+made-requires c κs = search needs
 
 returns : tie.Need-returns
 returns c =
-    let counted = c .before in
-    let sum = counted .before in
+    let all = c .before in
+    let sum = all .before in
     let landed = sum .before in
     let k = landed .before .before .before .before .args .kept in
-    cut-made k (counted .plus .ensures)
-    (c .plus2 .ensures ∙ ap (plus (k .committed)) (sum .carried .ensures ∙ ap (carried (k .changes)) (landed .cut-landing .ensures)))
+    cut-made k (all .plus .ensures ∙ ap (plus (k .committed)) (sum .carried .ensures ∙ ap (carried (k .changes)) (landed .cut-landing .ensures)))
+    (c .made .ensures)
 
 pub make-cut-spec : {M : Type 1} → statement M
 make-cut-spec =
-    tie.close
-    (tie.spec cut-landing-requires carried-requires plus-requires plus-requires-2 returns)
+    tie.close (tie.spec cut-landing-requires carried-requires plus-requires made-requires returns)

@@ -1,5 +1,5 @@
 -- `calls::make_open` meets its contract. Assumes nothing.
-use Rattle.trace.proofs.Made.{open-made}
+use Rattle.trace.proofs.CallsMade.{open-made}
 use borrow.Author.Needs.{needs}
 use Rattle.trace.proofs.calls.make_open.Statement.{statement}
 use Rattle.trace.proofs.calls.make_open.Tie as tie
@@ -7,17 +7,17 @@ use Rattle.trace.proofs.calls.make_open.Tie as tie
 open-requires : tie.Need-open-requires
 open-requires c κs = search needs
 
-plus-requires : tie.Need-plus-requires
-plus-requires c κs = search needs
-
 plain-number-requires : tie.Need-plain-number-requires
 plain-number-requires c κs = search needs
 
+made-requires : tie.Need-made-requires
+made-requires c κs = search needs
+
 returns : tie.Need-returns
 returns c =
-    let counted = c .before in
-    let called = counted .before .before .before in
-    open-made (called .before .args .kept) (counted .plus .ensures) (called .«open» .result) (called .«open» .ensures) (c .plain-number .ensures)
+    let number = c .before in
+    let called = number .before .before .before in
+    open-made (called .before .args .kept) (called .«open» .result) (called .«open» .ensures) (number .plain-number .ensures) (c .made .ensures)
 
 pub make-open-spec : {M : Type 1} → statement M
-make-open-spec = tie.close (tie.spec open-requires plus-requires plain-number-requires returns)
+make-open-spec = tie.close (tie.spec open-requires plain-number-requires made-requires returns)
