@@ -21,7 +21,7 @@ use Rattle.trace.specs.declared.types.Phase.{Phase}
 use Rattle.trace.specs.declared.types.Phase.the-variants as phase
 use Rattle.trace.specs.declared.types.Kept.{Kept}
 use Rattle.trace.specs.declared.types.Made.{Made}
-use Rattle.trace.specs.Counts.{plus, carried, cutLanding}
+use Rattle.tally.specs.Counts.{plus, carried, cutLanding}
 use Rattle.trace.specs.Run.{Makes, makes-open, makes-create, makes-write, makes-complete, makes-cut, changesAfter, createMore, writeMore, blank}
 use Rattle.trace.specs.Run.{changesLeft, nowCommitted}
 use Rattle.trace.specs.Seen.{runOf}

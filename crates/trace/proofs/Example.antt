@@ -27,7 +27,7 @@ use Rattle.lines.specs.Decimal.{digitsIn, decimal}
 use Rattle.lines.specs.Line.{wordText, holdText, moreText, textOf}
 use Rattle.trace.specs.declared.types.Phase.{Phase}
 use Rattle.trace.specs.declared.types.Phase.the-variants as phase
-use Rattle.trace.specs.Counts.{plus, oneMore, carriedBelow}
+use Rattle.tally.specs.Counts.{plus, oneMore, carriedBelow}
 use Rattle.trace.specs.Run.{Run, Step, begun, Makes, makes-open, makes-create, makes-write, makes-cut, blank, inOrder}
 use Rattle.trace.specs.Printed as prints
 use Rattle.trace.specs.Printed.{Prints, Printed}

@@ -19,7 +19,7 @@ use Rattle.lines.specs.declared.types.More.{More}
 use Rattle.trace.specs.declared.types.Phase.{Phase}
 use Rattle.trace.specs.declared.types.Kept.{Kept}
 use Rattle.trace.specs.declared.types.Made.{Made}
-use Rattle.trace.specs.Counts.{plus}
+use Rattle.tally.specs.Counts.{plus}
 use Rattle.trace.specs.Run.{Step, Makes, isOpen, inOrder, afterBad}
 use Rattle.trace.specs.Seen.{runOf}
 

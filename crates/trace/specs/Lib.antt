@@ -1,5 +1,4 @@
 -- What a replay keeps between records, and what it prints.
-pub mod Counts
 pub mod Run
 pub mod Printed
 pub mod Seen

@@ -27,7 +27,7 @@ use Rattle.lines.specs.declared.types.More.the-variants as more
 use Rattle.lines.specs.declared.types.Line.{Line}
 use Rattle.trace.specs.declared.types.Phase.{Phase}
 use Rattle.trace.specs.declared.types.Phase.the-variants as phase
-use Rattle.trace.specs.Counts.{plus, oneMore, carried, cleared, cutLanding}
+use Rattle.tally.specs.Counts.{plus, oneMore, carried, cleared, cutLanding}
 
 -- what is kept between records, with the working image and the undo area
 pub record Run : Type 0 where

@@ -6,10 +6,6 @@ ghost use Rattle.records.specs.Record.{opens, writes, completes, cuts};
 ghost use Rattle.trace.specs.Run.{Makes, writeMore, changesLeft, nowCommitted};
 ghost use Rattle.trace.specs.Seen.{runOf};
 ghost use Rattle.trace.specs.Inside.{stepOf, MakesAlone};
-use crate::counts::carried;
-use crate::counts::cleared;
-use crate::counts::cut_landing;
-use crate::counts::plus;
 use crate::made::made;
 use crate::types::Kept;
 use crate::types::Made;
@@ -23,6 +19,10 @@ use rules::WriteAnswer;
 use rules::sizes::BLOCK_BYTES;
 use rules::sizes::SLOTS;
 use slots::patches::patches_on;
+use tally::carried;
+use tally::cleared;
+use tally::cut_landing;
+use tally::plus;
 
 // The paper's number for the answer of open and of complete.
 fn plain_number(answer: Answer) -> u64

@@ -8,7 +8,6 @@ ghost use Rattle.trace.specs.Run.{Makes, changesAfter, createMore};
 ghost use Rattle.trace.specs.Seen.{runOf};
 ghost use Rattle.trace.specs.Inside.{stepOf, CreatedBy};
 ghost use Rattle.cache.specs.Seen.{seen};
-use crate::counts::one_more;
 use crate::made::made;
 use crate::types::Kept;
 use crate::types::Made;
@@ -23,6 +22,7 @@ use records::types::Head;
 use rules::CreateAnswer;
 use rules::Slot;
 use rules::sizes::SLOTS;
+use tally::one_more;
 
 // The refusal's number, or 0.
 fn create_number(answer: CreateAnswer) -> u64

@@ -1,7 +1,6 @@
 // What a record's call leaves, put together: what every call of a record ends with.
 ghost use mathlib.Core.Path.{_≡_};
 ghost use Rattle.trace.specs.Inside.{madeOf};
-use crate::counts::plus;
 use crate::types::Kept;
 use crate::types::Made;
 use crate::types::Phase;
@@ -10,6 +9,7 @@ use lines::types::Line;
 use lines::types::More;
 use lines::types::Word;
 use rules::sizes::SLOTS;
+use tally::plus;
 
 // The next place, and the line of the place that is past.
 pub fn made(

@@ -1,6 +1,6 @@
 -- `calls::make_cut` meets its contract. Assumes nothing.
 use mathlib.Core.Path.{ap, _∙_}
-use Rattle.trace.specs.Counts.{plus, carried}
+use Rattle.tally.specs.Counts.{plus, carried}
 use Rattle.trace.proofs.CallsMade.{cut-made}
 use borrow.Author.Needs.{needs}
 use Rattle.trace.proofs.calls.make_cut.Statement.{statement}

@@ -1,6 +1,6 @@
 -- `calls::now_committed` meets its contract. Assumes nothing.
 use mathlib.Core.Path.{ap, _∙_}
-use Rattle.trace.specs.Counts.{plus}
+use Rattle.tally.specs.Counts.{plus}
 use borrow.Author.Needs.{needs}
 use Rattle.trace.proofs.calls.now_committed.Statement.{statement}
 use Rattle.trace.proofs.calls.now_committed.Tie as tie

@@ -1,12 +1,12 @@
--- `counts::carried` meets its contract: the sum of the slots passed. Assumes nothing.
+-- `tally::carried` meets its contract: the sum of the slots passed. Assumes nothing.
 use Prim.Native.Nat.{_-_, _≤_}
 use mathlib.Core.Path.{_≡_, refl, sym, ap, ap₂, _∙_}
 use native.Mathlib.Numerals.{add-one}
 use native.Mathlib.Omega.{arith}
 use borrow.Author.Needs.{needs}
-use Rattle.trace.specs.Counts.{plus, carriedBelow}
-use Rattle.trace.proofs.counts.carried.Statement.{statement}
-use Rattle.trace.proofs.counts.carried.Tie as tie
+use Rattle.tally.specs.Counts.{plus, carriedBelow}
+use Rattle.tally.proofs.carried.Statement.{statement}
+use Rattle.tally.proofs.carried.Tie as tie
 
 abbrev Inv-loop : tie.InvT-loop
 Inv-loop set changes sum₀ i₀ sum i = (i ≤ 64) × (sum ≡ carriedBelow changes set i)

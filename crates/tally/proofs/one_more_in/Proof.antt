@@ -1,9 +1,9 @@
--- `counts::one_more_in` meets its contract. Assumes nothing.
+-- `tally::one_more_in` meets its contract. Assumes nothing.
 use mathlib.Core.Path.{sym, _∙_}
 use borrow.Author.Tests.{eq-eqb, ne-eqb, not-true, not-false}
 use borrow.Author.Needs.{needs}
-use Rattle.trace.proofs.counts.one_more_in.Statement.{statement}
-use Rattle.trace.proofs.counts.one_more_in.Tie as tie
+use Rattle.tally.proofs.one_more_in.Statement.{statement}
+use Rattle.tally.proofs.one_more_in.Tie as tie
 
 is-used-requires : tie.Need-is-used-requires
 is-used-requires c κs = search needs

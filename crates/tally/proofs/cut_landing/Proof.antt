@@ -1,4 +1,4 @@
--- `counts::cut_landing` meets its contract: the set of those of the slots passed that land. Assumes nothing.
+-- `tally::cut_landing` meets its contract: the set of those of the slots passed that land. Assumes nothing.
 use Prim.Native.Nat.{ℕ, _-_, _≤_}
 use mathlib.Core.Path.{_≡_, sym, ap, _∙_}
 use mathlib.Core.Bool.{Bool, _&&_}
@@ -10,8 +10,8 @@ use Rattle.masks.proofs.Laws.{below-none, with-if-below}
 use Rattle.rules.specs.declared.Slot.{Slot}
 use Rattle.rules.specs.Slots.{isInFlight}
 use Rattle.rules.specs.Table.{slotAt}
-use Rattle.trace.proofs.counts.cut_landing.Statement.{statement}
-use Rattle.trace.proofs.counts.cut_landing.Tie as tie
+use Rattle.tally.proofs.cut_landing.Statement.{statement}
+use Rattle.tally.proofs.cut_landing.Tie as tie
 
 abbrev landsAt : List Slot → ℕ → ℕ → Bool
 landsAt ss bits i = isInFlight (slotAt ss i .state) && has bits (slotAt ss i .block)

@@ -1,4 +1,4 @@
--- `counts::cleared` meets its contract: the counts of the slots passed stand at their places. Assumes nothing.
+-- `tally::cleared` meets its contract: the counts of the slots passed stand at their places. Assumes nothing.
 use Prim.Native.Nat.{ℕ, _-_, _≤_, _<_}
 use mathlib.Core.Path.{_≡_, refl, _∙_}
 use mathlib.Core.Bool.{cond}
@@ -9,9 +9,9 @@ use lib.ListN.{length, getD, length-set}
 use Rattle.masks.specs.Sets.{has}
 use Rattle.rules.proofs.SlotsBy.{list-is}
 use Rattle.slots.proofs.Listed.{put-below}
-use Rattle.trace.specs.Counts.{cleared}
-use Rattle.trace.proofs.counts.cleared.Statement.{statement}
-use Rattle.trace.proofs.counts.cleared.Tie as tie
+use Rattle.tally.specs.Counts.{cleared}
+use Rattle.tally.proofs.cleared.Statement.{statement}
+use Rattle.tally.proofs.cleared.Tie as tie
 
 abbrev Inv-loop : tie.InvT-loop
 Inv-loop set changes next₀ i₀ next i =

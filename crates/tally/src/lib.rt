@@ -1,11 +1,12 @@
-// How many changes the patches stand for; specs/Counts.antt says what is counted.
+// How many changes the patches of a table stand for, and how many of them a cut finds on the store;
+// specs/Counts.antt says what is counted. It stands apart from `trace`, which makes the calls.
 ghost use mathlib.Core.Path.{_≡_};
 ghost use mathlib.Core.Bool.{cond, _&&_};
 ghost use lib.Dec.{eqb};
 ghost use Rattle.masks.specs.Sets.{has as Sets·has};
 ghost use Rattle.rules.specs.Slots.{isUsed, isInFlight};
-ghost use Rattle.trace.specs.Counts.{oneMore, carried, cleared, cutLanding};
-ghost use Rattle.trace.specs.Counts.{plus as Counts·plus};
+ghost use Rattle.tally.specs.Counts.{oneMore, carried, cleared, cutLanding};
+ghost use Rattle.tally.specs.Counts.{plus as Counts·plus};
 use rules::Slot;
 use rules::State;
 use rules::sizes::SLOTS;

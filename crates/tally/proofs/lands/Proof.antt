@@ -1,7 +1,7 @@
--- `counts::lands` meets its contract: each state in turn. Assumes nothing.
+-- `tally::lands` meets its contract: each state in turn. Assumes nothing.
 use borrow.Author.Needs.{needs}
-use Rattle.trace.proofs.counts.lands.Statement.{statement}
-use Rattle.trace.proofs.counts.lands.Tie as tie
+use Rattle.tally.proofs.lands.Statement.{statement}
+use Rattle.tally.proofs.lands.Tie as tie
 
 enum-told : tie.Need-enum-told
 enum-told c = search needs

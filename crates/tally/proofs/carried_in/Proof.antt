@@ -1,8 +1,8 @@
--- `counts::carried_in` meets its contract. Assumes nothing.
+-- `tally::carried_in` meets its contract. Assumes nothing.
 use mathlib.Core.Path.{sym, _∙_}
 use borrow.Author.Needs.{needs}
-use Rattle.trace.proofs.counts.carried_in.Statement.{statement}
-use Rattle.trace.proofs.counts.carried_in.Tie as tie
+use Rattle.tally.proofs.carried_in.Statement.{statement}
+use Rattle.tally.proofs.carried_in.Tie as tie
 
 has-requires : tie.Need-has-requires
 has-requires c κs = search needs

@@ -1,4 +1,4 @@
--- `counts::one_more` meets its contract: the counts of the slots passed stand at their places. Assumes nothing.
+-- `tally::one_more` meets its contract: the counts of the slots passed stand at their places. Assumes nothing.
 use Prim.Native.Nat.{ℕ, _-_, _≤_, _<_}
 use mathlib.Core.Path.{_≡_, refl, _∙_}
 use mathlib.Core.Bool.{cond}
@@ -10,9 +10,9 @@ use lib.ListN.{length, getD, length-set}
 use Rattle.rules.specs.declared.Slot.{Slot}
 use Rattle.rules.proofs.SlotsBy.{list-is}
 use Rattle.slots.proofs.Listed.{put-below}
-use Rattle.trace.specs.Counts.{plus, holdsNumber, oneMore}
-use Rattle.trace.proofs.counts.one_more.Statement.{statement}
-use Rattle.trace.proofs.counts.one_more.Tie as tie
+use Rattle.tally.specs.Counts.{plus, holdsNumber, oneMore}
+use Rattle.tally.proofs.one_more.Statement.{statement}
+use Rattle.tally.proofs.one_more.Tie as tie
 
 abbrev moreAt : List Slot → ℕ → List ℕ → ℕ → ℕ
 moreAt ss n changes k = cond (holdsNumber ss n k) (plus (getD changes k 0) 1) (getD changes k 0)

@@ -1,9 +1,9 @@
--- `counts::plus` meets its contract. Assumes nothing.
+-- `tally::plus` meets its contract. Assumes nothing.
 use native.Mathlib.Omega.{arith}
-use Rattle.trace.specs.Counts.{plus}
+use Rattle.tally.specs.Counts.{plus}
 use borrow.Author.Needs.{needs}
-use Rattle.trace.proofs.counts.plus.Statement.{statement}
-use Rattle.trace.proofs.counts.plus.Tie as tie
+use Rattle.tally.proofs.plus.Statement.{statement}
+use Rattle.tally.proofs.plus.Tie as tie
 
 sub-if1 : tie.Need-sub-if1
 sub-if1 c = search needs

@@ -1,0 +1,2 @@
+-- How many changes the patches of a table stand for.
+pub mod Counts
