@@ -3,3 +3,5 @@ pub mod Made
 pub mod Taken
 pub mod OneAnswer
 pub mod Printed
+pub mod HowMany
+pub mod Counted

@@ -4,3 +4,4 @@ pub mod Run
 pub mod Printed
 pub mod Seen
 pub mod Replayed
+pub mod OnStore
