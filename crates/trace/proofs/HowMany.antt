@@ -2,6 +2,7 @@
 use Prim.Native.Nat.{ℕ, zero, suc, _+_, _≤_, _<_}
 use mathlib.Core.Path.{_≡_, refl, sym, ap, ap₂, _∙_}
 use mathlib.Core.Bool.{Bool, true, false, cond, _&&_, _||_}
+use mathlib.Core.Bool as bool
 use mathlib.Core.List.{List, [], _∷_}
 use native.Mathlib.Omega.{arith}
 use borrow.Author.Tests.{eq-eqb}
@@ -9,7 +10,7 @@ use lib.Dec.{eqb}
 use lib.ListN.{length, getD}
 use Rattle.masks.specs.Sets.{has, someBelow}
 use Rattle.masks.proofs.Laws.{at-some}
-use Rattle.ground.proofs.Decided.{clash, and-true, true-or-l, true-or-r}
+use Rattle.ground.proofs.Decided.{and-true, true-or-l, true-or-r}
 use Rattle.rules.specs.Create.{isIn}
 use Rattle.trace.specs.Counts.{mostCount, plus, carriedBelow}
 use Rattle.trace.specs.OnStore.{howManyOf}
@@ -51,16 +52,8 @@ many-either p q (n ∷ ns) f = omega (arith, either (p n) (q n) (f n), many-eith
 
 -- a test that goes for all or for none
 pub many-if : (p : ℕ → Bool) (b : Bool) (ns : List ℕ) → howManyOf (λ n. p n && b) ns ≡ cond b (howManyOf p ns) 0
-many-if p true ns = many-same (λ n. p n && true) p ns (λ n e. and-one (p n))
-  where
-    and-one : (a : Bool) → (a && true) ≡ a
-    and-one true = refl
-    and-one false = refl
-many-if p false ns = many-same (λ n. p n && false) (λ n. false) ns (λ n e. and-none (p n)) ∙ many-none ns
-  where
-    and-none : (a : Bool) → (a && false) ≡ false
-    and-none true = refl
-    and-none false = refl
+many-if p true ns = many-same (λ n. p n && true) p ns (λ n e. bool.and-true (p n))
+many-if p false ns = many-same (λ n. p n && false) (λ n. false) ns (λ n e. bool.and-false (p n)) ∙ many-none ns
 
 -- each slot's count is how many of the notes hold of it, and a note holds of one slot: the sum over a set is how many hold of a slot in it
 module _ (h : ℕ → ℕ → Bool) (one : (n i j : ℕ) → i < 64 → j < 64 → h n i ≡ true → h n j ≡ true → i ≡ j) (changes ns : List ℕ)

@@ -5,3 +5,6 @@ pub mod OneAnswer
 pub mod Printed
 pub mod HowMany
 pub mod Counted
+pub mod Holds
+pub mod Told
+pub mod OnStore
