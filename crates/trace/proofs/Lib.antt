@@ -4,3 +4,8 @@ pub mod Taken
 pub mod OneAnswer
 pub mod Printed
 pub mod Example
+pub mod HowMany
+pub mod Counted
+pub mod Holds
+pub mod Told
+pub mod OnStore

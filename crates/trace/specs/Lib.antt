@@ -4,3 +4,4 @@ pub mod Printed
 pub mod Seen
 pub mod Inside
 pub mod Replayed
+pub mod OnStore
