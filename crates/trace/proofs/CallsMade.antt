@@ -6,18 +6,15 @@ use Rattle.rules.specs.declared.Setting.the-variants.{Board}
 use Rattle.rules.specs.Create.{Change}
 use Rattle.rules.specs.Complete.{landing}
 use Rattle.rules.specs.Calls.{plainNumber, Opens, createNumber, Creates, writeNumber, Writes, Completes}
-use Rattle.cache.specs.declared.types.Table.{Table}
 use Rattle.cache.specs.declared.types.Opened.{Opened}
 use Rattle.cache.specs.declared.types.Created.{Created}
 use Rattle.cache.specs.declared.types.Written.{Written}
 use Rattle.cache.specs.declared.types.Completed.{Completed}
 use Rattle.cache.specs.Seen.{seen, opening, creation, writing, completion}
 use Rattle.records.specs.Record.{opens, creates, writes, completes, cuts}
-use Rattle.lines.specs.declared.types.Word.{Word}
 use Rattle.lines.specs.declared.types.Word.the-variants as word
 use Rattle.lines.specs.declared.types.More.{More}
 use Rattle.lines.specs.declared.types.More.the-variants as more
-use Rattle.trace.specs.declared.types.Phase.{Phase}
 use Rattle.trace.specs.declared.types.Phase.the-variants as phase
 use Rattle.trace.specs.declared.types.Kept.{Kept}
 use Rattle.trace.specs.declared.types.Made.{Made}
