@@ -28,7 +28,7 @@ After w more next.Bad = nextIn (w ++ more) ≡ next.Bad
 as-many : {a b : ℕ} → a ≡ b → next.NoneYet a ≡ next.NoneYet b
 as-many e = cc
 
-form-short : {t n : ℕ} → Form t n → n ≤ 1200
+pub form-short : {t n : ℕ} → Form t n → n ≤ 1200
 form-short open-form = omega arith
 form-short (create-form k h) = h
 form-short write-form = omega arith

@@ -61,7 +61,7 @@ numbers-back (n ∷ ns) rest l =
 -- ---- the head of a record, and what follows from it
 
 module _ (c : Call) (rest : List ℕ) (s : In 2 (length (valueOf c))) where
-  head-tag : numberAt (recordOf c ++ rest) 0 1 ≡ tagOf c
+  pub head-tag : numberAt (recordOf c ++ rest) 0 1 ≡ tagOf c
   unfolding numberAt recordOf
   head-tag = omega arith
 
@@ -167,7 +167,7 @@ module _ (c : Change) (rest : List ℕ) where
   unfolding numberAt highFirst recordOf valueOf
   offset-there l = omega arith
 
-  many-there : In 1 (length (c .named)) → numberAt (recordOf (creates c) ++ rest) 6 1 ≡ length (c .named)
+  pub many-there : In 1 (length (c .named)) → numberAt (recordOf (creates c) ++ rest) 6 1 ≡ length (c .named)
   unfolding numberAt highFirst recordOf valueOf
   many-there l = omega arith
 
@@ -195,6 +195,15 @@ back (creates c) f rest = create-back c rest f
 back (writes b) f rest = write-back rest b f
 back (completes b) f rest = complete-back rest b f
 back (cuts s) f rest = cut-back rest s f
+
+-- tag and length of a record are of a known form
+pub known-form : (c : Call) → Fits c → formed (tagOf c) (length (valueOf c)) ≡ true
+unfolding formed highFirst valueOf
+known-form (opens n) f = refl
+known-form (creates c) f = create-form-known c [] f
+known-form (writes b) f = refl
+known-form (completes b) f = refl
+known-form (cuts s) f = refl
 
 pub length-short : (c : Call) → Fits c → length (valueOf c) ≤ mostValue
 unfolding highFirst valueOf

@@ -9,3 +9,4 @@ pub mod Counted
 pub mod Holds
 pub mod Told
 pub mod OnStore
+pub mod BadKinds

@@ -15,7 +15,7 @@ use Rattle.rules.specs.Create.{isIn}
 use Rattle.records.specs.Record.{cuts}
 use Rattle.tally.specs.Counts.{mostCount, holdsNumber, cutLanding}
 use Rattle.trace.specs.Run.{Run, Step, Makes, makes-cut, onStore}
-use Rattle.trace.specs.OnStore.{landsIn, inNoSlot, inLanding, isOnStore, howManyOf, CutCounts}
+use Rattle.trace.specs.OnStore.{landsIn, inNoSlot, inLanding, isOnStore, howManyOf, CutCounts, and-made}
 use Rattle.trace.proofs.HowMany.{many-same}
 use Rattle.trace.proofs.Counted.{within, some-same, joint}
 use Rattle.trace.proofs.Holds.{single}
@@ -57,6 +57,7 @@ committed-is t n c =
 
 pub cut-counts : CutCounts
 cut-counts = record {
+  goes-on = λ r ns input c s k g m. and-made k (g .good .in-order) m;
   printed = λ r ns k few bits s m. printed (noted-told k) few m;
   committed = λ r ns k n e. (is-committed (noted-told k) n e, committed-is (r .table) n);
 }

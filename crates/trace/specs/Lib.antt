@@ -5,3 +5,4 @@ pub mod Seen
 pub mod Inside
 pub mod Replayed
 pub mod OnStore
+pub mod BadKinds

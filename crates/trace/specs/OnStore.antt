@@ -16,6 +16,7 @@ use Rattle.lines.specs.declared.types.More.{More}
 use Rattle.lines.specs.declared.types.More.the-variants as more
 use Rattle.tally.specs.Counts.{mostCount, holdsNumber}
 use Rattle.trace.specs.Run.{Run, Step, begun, inOrder, Makes}
+use Rattle.trace.specs.Printed.{GoesOn}
 
 -- the notes of a run are its accepted changes, each by the number that its create was answered, newest first: a granted create's line says it
 abbrev pub notedBy : More → List ℕ → List ℕ
@@ -50,6 +51,8 @@ howManyOf p [] = 0
 howManyOf p (n ∷ ns) = cond (p n) 1 0 + howManyOf p ns
 
 pub record CutCounts : Type 0 where
+  -- what is printed of an input goes by such runs
+  pub goes-on : (r : Run) (ns input : List ℕ) (c : Call) (s : Step) → Noted r ns → GoesOn r input c → Makes r c s → Noted (s .run) (notedBy (s .line .more) ns)
   -- a cut's line says how many of the accepted changes are on the store, where these are no more than a count can say
   pub printed : (r : Run) (ns : List ℕ) → Noted r ns → length ns ≤ mostCount → (bits : ℕ) (s : Step) → Makes r (cuts bits) s
       → s .line .number ≡ howManyOf (isOnStore r bits) ns
