@@ -17,6 +17,7 @@ use Rattle.rules.specs.Sizes.{slots, blockBytes, imageBytes}
 use Rattle.rules.specs.Settings.{undoBytes}
 use Rattle.rules.specs.Table.{Table}
 use Rattle.rules.specs.Open.{opened}
+use Rattle.rules.specs.Create.{Change}
 use Rattle.rules.specs.Complete.{landing}
 use Rattle.rules.specs.Calls.{plainNumber, Opening, Opens, createNumber, Creation, Creates, writeNumber, Writing, Writes, Completion, Completes}
 use Rattle.records.specs.Record.{Call, opens, creates, writes, completes, cuts, recordOf, Fits}
@@ -153,7 +154,7 @@ afterCut r bits = record {
 -- the call of a record, made
 pub data Makes (r : Run) : Call → Step → Type 0 where
   makes-open : {n : ℕ} (o : Opening) → Opens Board n o → Makes r (opens n) (afterOpen r o)
-  makes-create : {c : _} (o : Creation) → Creates (r .table) (r .image) (r .undo) c o → Makes r (creates c) (afterCreate r o)
+  makes-create : {c : Change} (o : Creation) → Creates (r .table) (r .image) (r .undo) c o → Makes r (creates c) (afterCreate r o)
   makes-write : {b : ℕ} (o : Writing) → Writes (r .table) (r .image) (r .undo) blank b o → Makes r (writes b) (afterWrite r o)
   makes-complete : {b : ℕ} (o : Completion) → Completes (r .table) b o → Makes r (completes b) (afterComplete r b o)
   makes-cut : {s : ℕ} → Makes r (cuts s) (afterCut r s)
