@@ -18,7 +18,7 @@ fn digits(n: u64) -> usize
 }
 
 // The digits of n from place `at` on, and the place after them.
-pub fn put(out: &mut [u8], at: usize, n: u64) -> usize
+pub(crate) fn put(out: &mut [u8], at: usize, n: u64) -> usize
     requires { ⌜ at + length (decimal n) ≤ length (now out) ⌝ }
     ensures { λ r. ⌜ Laid (now (out .entry)) at (decimal n) (now (out .exit)) r ⌝ }
     ensures { λ r. ⌜ r ≤ at + 20 ⌝ }

@@ -12,7 +12,7 @@ use crate::types::Word;
 use rules::Hold;
 
 // The text from place `at` on, and the place after it.
-pub fn put(out: &mut [u8], at: usize, text: &[u8]) -> usize
+pub(crate) fn put(out: &mut [u8], at: usize, text: &[u8]) -> usize
     requires { ⌜ at + length (now text) ≤ length (now out) ⌝ }
     ensures { λ r. ⌜ Laid (now (out .entry)) at (now (text .entry)) (now (out .exit)) r ⌝ }
 {
@@ -21,7 +21,7 @@ pub fn put(out: &mut [u8], at: usize, text: &[u8]) -> usize
 }
 
 // The word between two spaces.
-pub fn put_word(out: &mut [u8], at: usize, word: Word) -> usize
+pub(crate) fn put_word(out: &mut [u8], at: usize, word: Word) -> usize
     requires { ⌜ at + 10 ≤ length (now out) ⌝ }
     ensures { λ r. ⌜ Laid (now (out .entry)) at (space ++ wordText word ++ space) (now (out .exit)) r ⌝ }
     ensures { λ r. ⌜ r ≤ at + 10 ⌝ }
@@ -59,7 +59,7 @@ fn put_count(out: &mut [u8], at: usize, n: u32) -> usize
 }
 
 // What a granted write or create adds, if anything.
-pub fn put_more(out: &mut [u8], at: usize, more: More) -> usize
+pub(crate) fn put_more(out: &mut [u8], at: usize, more: More) -> usize
     requires { ⌜ at + 16 ≤ length (now out) ⌝ }
     ensures { λ r. ⌜ Laid (now (out .entry)) at (moreText more) (now (out .exit)) r ⌝ }
     ensures { λ r. ⌜ r ≤ at + 16 ⌝ }

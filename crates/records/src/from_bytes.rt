@@ -11,28 +11,28 @@ fn wide(x: u8) -> u32
     x as u32
 }
 
-pub fn byte_at(bytes: &[u8], at: usize) -> u32
+pub(crate) fn byte_at(bytes: &[u8], at: usize) -> u32
     requires { ⌜ at + 1 ≤ length (now bytes) ⌝ }
     ensures { λ r. ⌜ (r ≡ numberAt (now (bytes .entry)) at 1) × (r < 256) ⌝ }
 {
     wide(bytes[at])
 }
 
-pub fn two_at(bytes: &[u8], at: usize) -> u32
+pub(crate) fn two_at(bytes: &[u8], at: usize) -> u32
     requires { ⌜ at + 2 ≤ length (now bytes) ⌝ }
     ensures { λ r. ⌜ (r ≡ numberAt (now (bytes .entry)) at 2) × (r < 65536) ⌝ }
 {
     wide(bytes[at]) * 256 + wide(bytes[at + 1])
 }
 
-pub fn four_at(bytes: &[u8], at: usize) -> u32
+pub(crate) fn four_at(bytes: &[u8], at: usize) -> u32
     requires { ⌜ at + 4 ≤ length (now bytes) ⌝ }
     ensures { λ r. ⌜ r ≡ numberAt (now (bytes .entry)) at 4 ⌝ }
 {
     two_at(bytes, at) * 65536 + two_at(bytes, at + 2)
 }
 
-pub fn eight_at(bytes: &[u8], at: usize) -> u64
+pub(crate) fn eight_at(bytes: &[u8], at: usize) -> u64
     requires { ⌜ at + 8 ≤ length (now bytes) ⌝ }
     ensures { λ r. ⌜ r ≡ numberAt (now (bytes .entry)) at 8 ⌝ }
 {

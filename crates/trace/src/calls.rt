@@ -35,7 +35,7 @@ fn plain_number(answer: Answer) -> u64
 }
 
 // Whether it is granted or refused, what follows is the table that open gave.
-pub fn make_open(kept: Kept, first: u32) -> Made
+pub(crate) fn make_open(kept: Kept, first: u32) -> Made
     ensures { λ r. ⌜ MakesAlone kept (opens first) r ⌝ }
 {
     let o = Table::open(Setting::Board, first);
@@ -74,7 +74,7 @@ fn write_more(answer: WriteAnswer) -> More
     }
 }
 
-pub fn make_write(kept: Kept, image: &[u8], undo: &[u8], block: u32) -> Made
+pub(crate) fn make_write(kept: Kept, image: &[u8], undo: &[u8], block: u32) -> Made
     ensures { λ r. ⌜ Makes (runOf kept (now (image .entry)) (now (undo .entry))) (writes block) (stepOf r (now (image .exit)) (now (undo .exit))) ⌝ }
 {
     let mut handed = [0u8; BLOCK_BYTES];
@@ -114,7 +114,7 @@ fn now_committed(answer: Answer, landed: u64, changes: [u64; SLOTS], committed: 
     }
 }
 
-pub fn make_complete(kept: Kept, block: u32) -> Made
+pub(crate) fn make_complete(kept: Kept, block: u32) -> Made
     ensures { λ r. ⌜ MakesAlone kept (completes block) r ⌝ }
 {
     let t = kept.table;
@@ -137,7 +137,7 @@ pub fn make_complete(kept: Kept, block: u32) -> Made
 }
 
 // Bit b of `bits` is set when block b's write in flight landed.
-pub fn make_cut(kept: Kept, bits: u64) -> Made
+pub(crate) fn make_cut(kept: Kept, bits: u64) -> Made
     ensures { λ r. ⌜ MakesAlone kept (cuts bits) r ⌝ }
 {
     let table = kept.table;

@@ -72,7 +72,13 @@ fn created(t: Table, image: &mut [u8], undo: &mut [u8], bytes: &[u8], head: Head
     )
 }
 
-pub fn make_create(kept: Kept, image: &mut [u8], undo: &mut [u8], bytes: &[u8], head: Head) -> Made
+pub(crate) fn make_create(
+    kept: Kept,
+    image: &mut [u8],
+    undo: &mut [u8],
+    bytes: &[u8],
+    head: Head,
+) -> Made
     requires { ⌜ onlyIn (now bytes) ≡ next.Record (found.Create head) ⌝ }
     ensures { λ r. ⌜ Makes (runOf kept (now (image .entry)) (now (undo .entry))) (callIn (now (bytes .entry)) (found.Create head))
         (stepOf r (now (image .exit)) (now (undo .exit))) ⌝ }

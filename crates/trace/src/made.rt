@@ -12,7 +12,7 @@ use rules::sizes::SLOTS;
 use tally::plus;
 
 // The next place, and the line of the place that is past.
-pub fn made(
+pub(crate) fn made(
     kept: Kept,
     phase: Phase,
     table: Table,
