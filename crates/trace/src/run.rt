@@ -26,6 +26,7 @@ use lines::types::Line;
 use lines::types::More;
 use lines::types::Word;
 use records::reader::only_in;
+use records::sizes::NO_RECORD;
 use records::types::Found;
 use records::types::Next;
 use rules::Setting;
@@ -86,7 +87,7 @@ fn made_bad(kept: Kept) -> Made
         line: Line {
             place: kept.place,
             word: Word::Bad,
-            number: 16,
+            number: NO_RECORD as u64,
             more: More::Nothing,
         },
     }
