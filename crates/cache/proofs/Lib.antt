@@ -2,3 +2,4 @@
 pub mod Looks
 pub mod Sent
 pub mod Accepted
+pub mod Joint

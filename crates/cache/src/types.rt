@@ -2,6 +2,7 @@
 // by which these promise can name them.
 use rules::Answer;
 use rules::CreateAnswer;
+use rules::SecondAnswer;
 use rules::Setting;
 use rules::Slot;
 use rules::WriteAnswer;
@@ -34,4 +35,10 @@ pub struct Written {
 pub struct Completed {
     pub table: Table,
     pub answer: Answer,
+}
+
+pub struct CompletedWritten {
+    pub table: Table,
+    pub first: Answer,
+    pub second: SecondAnswer,
 }

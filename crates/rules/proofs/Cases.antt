@@ -1,7 +1,8 @@
 -- The first case that holds: how it is shown, and that it is one. Every promise's refusals rest on these.
-use Prim.Native.Nat.{ℕ}
+use Prim.Native.Nat.{ℕ, _≤_}
 use mathlib.Core.Path.{_≡_, refl, sym, _∙_}
 use mathlib.Core.List.{List, [], _∷_}
+use native.Mathlib.Omega.{arith}
 use mathlib.Core.Logic.{_⊎_, inl, inr}
 use Rattle.rules.specs.Refusals.{Case, case, FirstOf, First}
 
@@ -68,3 +69,17 @@ one (c ∷ rest) j k (inr p) (inr q) = one rest j k (p .1) (q .1)
 -- the first refusal that holds is one
 pub first-one : {cases : List Case} {j k : ℕ} → First cases j → First cases k → j ≡ k
 first-one {cases} {j} {k} p q = one cases j k (p .is) (q .is)
+
+-- a first case's number is at most what all of the list are
+unfoldable pub AtMost : ℕ → List Case → Type 0
+AtMost n [] = Unit {0}
+AtMost n (c ∷ l) = (c .number ≤ n) × AtMost n l
+
+most-of : (n : ℕ) (cases : List Case) (k : ℕ) → AtMost n cases → FirstOf cases k → k ≤ n
+unfolding FirstOf AtMost
+most-of n [] k a e = omega (arith, e)
+most-of n (c ∷ l) k a (inl p) = omega (arith, a .0, p .1)
+most-of n (c ∷ l) k a (inr p) = most-of n l k (a .1) (p .1)
+
+pub first-most : (n : ℕ) (cases : List Case) {k : ℕ} → AtMost n cases → First cases k → k ≤ n
+first-most n cases {k} a f = most-of n cases k a (f .is)

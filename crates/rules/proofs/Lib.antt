@@ -19,6 +19,7 @@ pub mod Joined
 pub mod Grants
 pub mod OneAnswer
 pub mod SoundCalls
+pub mod Joint
 pub mod Computed
 pub mod Steps
 pub mod OldNumbers

@@ -13,4 +13,5 @@ pub mod Count
 pub mod Refusals
 pub mod Passed
 pub mod Calls
+pub mod Joint
 pub mod Rows

@@ -71,3 +71,11 @@ pub enum Answer {
     Granted,
     Refused(u32),
 }
+
+// What the joint call answers to its write: the set of slots sent; or not tried, where completing was
+// refused.
+pub enum SecondAnswer {
+    Granted(u64),
+    Refused(u32),
+    NotTried,
+}
