@@ -4,6 +4,7 @@ pub mod Forms
 pub mod Found
 pub mod Values
 pub mod Recorded
+pub mod CallsMade
 pub mod Reading
 pub mod ReadBack
 pub mod Beginning

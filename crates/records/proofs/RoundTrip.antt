@@ -10,10 +10,10 @@ use Rattle.ground.proofs.Decided.{clash}
 use Rattle.records.specs.declared.types.Found.{Found}
 use Rattle.records.specs.declared.types.Next.{Next}
 use Rattle.records.specs.declared.types.Next.the-variants as next
-use Rattle.records.specs.Record.{Call, recordOf, traceOf, AllIn, Fits}
+use Rattle.records.specs.Record.{Call, recordOf, traceOf, AllIn, Fits, AllFit}
 use Rattle.records.specs.Reader.{numberAt, nextIn, callIn}
 use Rattle.records.specs.RoundTrip as round
-use Rattle.records.specs.RoundTrip.{AllFit, Taken, RoundTrip, Begins, ReaderMeans}
+use Rattle.records.specs.RoundTrip.{Taken, RoundTrip, Begins, ReaderMeans}
 use Rattle.records.proofs.Reading.{found-taken, taken-bytes, length-record}
 use Rattle.records.proofs.ReadBack.{back, head-size, length-short}
 use Rattle.records.proofs.Beginning.{bad-stays, none-until}
@@ -54,8 +54,8 @@ begins-one {c} {d} {rest} {more} f g e =
 
 read-back : (cs : List Call) → AllFit cs → Taken (traceOf cs) cs
 unfolding traceOf
-read-back [] round.none = round.none
-read-back (c ∷ cs) (round.and-more f fs) =
+read-back [] AllFit.none = round.none
+read-back (c ∷ cs) (AllFit.and-more f fs) =
     let rest = traceOf cs in
     let r = back c f rest in
     subst (λ (d : Call). Taken (recordOf c ++ rest) (d ∷ cs)) (r .call)
@@ -90,12 +90,12 @@ drop-in n w b i l = subst (λ (x : ℕ). x < 256) (sym (getD-drop n w i 0)) (b (
 
 written-again : (w : List ℕ) → AllIn 1 w → (cs : List Call) → Taken w cs → AllFit cs × (traceOf cs ≡ w)
 unfolding traceOf
-written-again w b cs round.none = (round.none, refl)
+written-again w b cs round.none = (AllFit.none, refl)
 written-again w b cs (round.and-more {f = f} e t) =
     let n = 3 + numberAt w 1 2 in
     let h = record-begins w b f e in
     let more = written-again (drop n w) (drop-in n w b) _ t in
-    (round.and-more (h .0) (more .0), ap (λ (r : List ℕ). recordOf (callIn w f) ++ r) (more .1) ∙ sym (h .1))
+    (AllFit.and-more (h .0) (more .0), ap (λ (r : List ℕ). recordOf (callIn w f) ++ r) (more .1) ∙ sym (h .1))
 
 pub round-trip : RoundTrip
 round-trip = record { read-back = read-back; read-one = read-one; written-again = written-again }

@@ -84,3 +84,8 @@ Fits (cuts s) = In 8 s
 unfoldable pub traceOf : List Call → List ℕ
 traceOf [] = []
 traceOf (c ∷ cs) = recordOf c ++ traceOf cs
+
+-- every call fits
+pub data AllFit : List Call → Type 0 where
+  none : AllFit []
+  and-more : {c : Call} {cs : List Call} → Fits c → AllFit cs → AllFit (c ∷ cs)

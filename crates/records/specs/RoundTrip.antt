@@ -5,13 +5,8 @@ use mathlib.Core.List.{List, [], _∷_, _++_}
 use lib.ListN.{length, drop}
 use Rattle.records.specs.declared.types.Found.{Found}
 use Rattle.records.specs.declared.types.Next.the-variants as next
-use Rattle.records.specs.Record.{Call, recordOf, traceOf, recordBytes, headBytes, AllIn, Fits}
+use Rattle.records.specs.Record.{Call, recordOf, traceOf, recordBytes, headBytes, AllIn, Fits, AllFit}
 use Rattle.records.specs.Reader.{numberAt, nextIn, callIn}
-
--- every call fits
-pub data AllFit : List Call → Type 0 where
-  none : AllFit []
-  and-more : {c : Call} {cs : List Call} → Fits c → AllFit cs → AllFit (c ∷ cs)
 
 -- the reader takes the bytes as these calls, record after record, to their end; how long a record is, its head says
 pub data Taken : List ℕ → List Call → Type 0 where

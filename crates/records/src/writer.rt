@@ -9,8 +9,8 @@ ghost use Rattle.spans.specs.Spans.{splice};
 ghost use Rattle.rules.specs.Create.{changeOf};
 ghost use Rattle.records.specs.Record.{highFirst, fourEach, recordOf, SizesFit, recordBytes};
 ghost use Rattle.records.specs.Record.{opens, creates, writes, completes, cuts};
-ghost use Rattle.records.specs.Writer.{Records, recording};
-ghost use Rattle.records.specs.Inside.{BlockRecords};
+ghost use Rattle.records.specs.Writer.{Records, JointRecords, recording};
+ghost use Rattle.records.specs.Inside.{blockBytes, BlockRecords};
 use crate::sizes::COMPLETE;
 use crate::sizes::CREATE;
 use crate::sizes::CREATE_BYTES;
@@ -50,7 +50,16 @@ pub fn open(buffer: &mut [u8], first: u32) -> Recorded
     Recorded::Length(7)
 }
 
-// A record whose value is a block.
+// The record whose value is a block, from place `at`.
+fn put_block(buffer: &mut [u8], at: usize, tag: u32, block: u32)
+    requires { ⌜ at + 4 ≤ length (now buffer) ⌝ }
+    ensures { λ _. ⌜ now (buffer .exit) ≡ splice (now (buffer .entry)) at (blockBytes tag block) ⌝ }
+{
+    put_one(buffer, at, tag);
+    put_two(buffer, at + 1, 1);
+    put_one(buffer, at + 3, block);
+}
+
 fn block_record(buffer: &mut [u8], tag: u32, block: u32) -> Recorded
     ensures { λ r. ⌜ BlockRecords (now (buffer .entry)) tag block (recording r (now (buffer .exit))) ⌝ }
 {
@@ -60,8 +69,7 @@ fn block_record(buffer: &mut [u8], tag: u32, block: u32) -> Recorded
     if 255 < block {
         return Recorded::Refused(NO_RECORD);
     }
-    head(buffer, tag, 1);
-    put_one(buffer, 3, block);
+    put_block(buffer, 0, tag, block);
     Recorded::Length(4)
 }
 
@@ -75,6 +83,27 @@ pub fn complete(buffer: &mut [u8], block: u32) -> Recorded
     ensures { λ r. ⌜ Records (now (buffer .entry)) (completes block) (recording r (now (buffer .exit))) ⌝ }
 {
     block_record(buffer, COMPLETE, block)
+}
+
+// The calls that a joint call made, by what completing block x answered.
+pub fn complete_write(buffer: &mut [u8], x: u32, y: u32, first: u32) -> Recorded
+    ensures { λ r. ⌜ JointRecords (now (buffer .entry)) x y first (recording r (now (buffer .exit))) ⌝ }
+{
+    if first != 0 {
+        return complete(buffer, x);
+    }
+    if buffer.len() != RECORD_BYTES {
+        return Recorded::Refused(BUFFER_SIZE);
+    }
+    if 255 < x {
+        return Recorded::Refused(NO_RECORD);
+    }
+    if 255 < y {
+        return Recorded::Refused(NO_RECORD);
+    }
+    put_block(buffer, 0, COMPLETE, x);
+    put_block(buffer, 4, WRITE, y);
+    Recorded::Length(8)
 }
 
 // Bit b of `landed` is set when block b's write in flight landed.

@@ -3,7 +3,7 @@ use native.Mathlib.Omega.{arith}
 use denote.Ref.{now}
 use Rattle.ground.proofs.Decided.{yes-not, no-not}
 use Rattle.rules.specs.Create.{changeOf}
-use Rattle.records.specs.Record.{creates, SizesFit}
+use Rattle.records.specs.Record.{creates, SizesFit, recordOf}
 use Rattle.records.proofs.Values.{length-create}
 use Rattle.records.proofs.Recorded.{wrong-size, no-fit, is-recorded}
 use borrow.Author.Needs.{needs}
@@ -22,7 +22,7 @@ sizes-here : (c : tie.Else2) → SizesFit (changeOf (start c .args .block) (star
 sizes-here c = yes-not (c .before .sizes-fit .result) (c .before .sizes-fit .ensures) (c .if2 .left)
 
 returns : tie.Need-returns
-returns c = wrong-size (creates _) (c .if1 .taken)
+returns c = wrong-size (recordOf (creates _)) (c .if1 .taken)
 
 sizes-fit-requires : tie.Need-sizes-fit-requires
 sizes-fit-requires c κs = search needs
@@ -30,7 +30,7 @@ sizes-fit-requires c κs = search needs
 returns-2 : tie.Need-returns-2
 returns-2 c =
     let f = c .before in
-    no-fit (creates _) (f .before .if1 .left) (λ w. no-not (f .sizes-fit .result) (f .sizes-fit .ensures) (c .if2 .taken) (w .sizes))
+    no-fit (recordOf (creates _)) (f .before .if1 .left) (λ w. no-not (f .sizes-fit .result) (f .sizes-fit .ensures) (c .if2 .taken) (w .sizes))
 
 put-create-requires : tie.Need-put-create-requires
 put-create-requires c κs = (c .before .before .before .if1 .left, sizes-here (c .before))
@@ -59,7 +59,7 @@ returns-3 c =
     let judged = e .before .before in
     let named = judged .before .shared-slice-known2 .given in
     let bytes = judged .before .before .shared-slice-known .given in
-    is-recorded (creates _) (judged .if1 .left)
+    is-recorded (recordOf (creates _)) (judged .if1 .left)
     (record { sizes = sizes; named = λ i l. omega (arith, named i); bytes = λ i l. omega (arith, bytes i) })
     (omega (arith, length-create (changeOf (a .block) (a .offset) (now (a .bytes)) (now (a .named)))))
     (put .put-create .ensures)

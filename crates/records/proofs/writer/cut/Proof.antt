@@ -9,7 +9,7 @@ use Rattle.records.proofs.writer.cut.Statement.{statement}
 use Rattle.records.proofs.writer.cut.Tie as tie
 
 returns : tie.Need-returns
-returns c = wrong-size (cuts _) (c .if1 .taken)
+returns c = wrong-size (recordOf (cuts _)) (c .if1 .taken)
 
 head-requires : tie.Need-head-requires
 head-requires c κs = search needs
@@ -26,7 +26,7 @@ returns-2 c =
     let value = c .before .before in
     let head = value .before .before .before .before in
     let e = head .before .before in
-    is-recorded (cuts _) (e .if1 .left) (omega (arith, e .before .before .fits .landed .fits)) refl
+    is-recorded (recordOf (cuts _)) (e .if1 .left) (omega (arith, e .before .before .fits .landed .fits)) refl
     (laid 3 _ (record { is = head .head .ensures }) (value .put-eight .ensures) refl .is)
 
 pub cut-spec : {M : Type 1} → statement M

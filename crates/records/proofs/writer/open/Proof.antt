@@ -9,7 +9,7 @@ use Rattle.records.proofs.writer.open.Statement.{statement}
 use Rattle.records.proofs.writer.open.Tie as tie
 
 returns : tie.Need-returns
-returns c = wrong-size (opens _) (c .if1 .taken)
+returns c = wrong-size (recordOf (opens _)) (c .if1 .taken)
 
 head-requires : tie.Need-head-requires
 head-requires c κs = search needs
@@ -26,7 +26,7 @@ returns-2 c =
     let value = c .before .before in
     let head = value .before .before .before .before in
     let e = head .before .before in
-    is-recorded (opens _) (e .if1 .left) (omega (arith, e .before .before .fits .first .fits)) refl
+    is-recorded (recordOf (opens _)) (e .if1 .left) (omega (arith, e .before .before .fits .first .fits)) refl
     (laid 3 _ (record { is = head .head .ensures }) (value .put-four .ensures) refl .is)
 
 pub open-spec : {M : Type 1} → statement M
