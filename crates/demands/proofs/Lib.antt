@@ -16,6 +16,7 @@ pub mod Later
 pub mod Besides
 pub mod Demand3
 pub mod Reach
+pub mod Joint
 pub mod Life
 pub mod QuestionFour
 pub mod QuestionSeven

@@ -12,6 +12,7 @@ use Rattle.rules.specs.Sizes.{imageBytes, roomStart}
 use Rattle.rules.specs.Table.{Table}
 use Rattle.rules.specs.Create.{Change, place}
 use Rattle.rules.specs.Calls.{Creation, Creates, createNumber, hardOrSoft, Writing, Writes, writeNumber, Completion, Completes, plainNumber}
+use Rattle.rules.specs.Joint.{Joint, CompletesWrites, secondNumber}
 use Rattle.demands.specs.History.{History, Accepted, Happened}
 use Rattle.demands.specs.Demand3.{storeAfterCut, hasLanded}
 use Rattle.demands.specs.Life.{PowerUp, storeLeft, Lived, allLanded, every}
@@ -52,6 +53,12 @@ pub record QuestionSeven : Type 0 where
   pub write-refused : (t : Table) (image undo block : List ℕ) (b : ℕ) (o : Writing) → Writes t image undo block b o → (writeNumber (o .answer) ≡ 0 → ⊥)
       → (o .table ≡ t) × (o .block ≡ block)
   pub complete-refused : (t : Table) (b : ℕ) (o : Completion) → Completes t b o → (plainNumber (o .answer) ≡ 0 → ⊥) → o .table ≡ t
+  -- nor does the joint call change anything lent but the block handed out: where completing is refused nothing at all, where only the write is, not that block
+  pub joint : (t : Table) (image undo block : List ℕ) (x y : ℕ) (o : Joint) → CompletesWrites t image undo block x y o → (o .image ≡ image) × (o .undo ≡ undo)
+  pub joint-refused : (t : Table) (image undo block : List ℕ) (x y : ℕ) (o : Joint) → CompletesWrites t image undo block x y o
+      → (plainNumber (o .first) ≡ 0 → ⊥) → (o .table ≡ t) × (o .block ≡ block)
+  pub joint-write-refused : (t : Table) (image undo block : List ℕ) (x y : ℕ) (o : Joint) → CompletesWrites t image undo block x y o
+      → (k : ℕ) → secondNumber (o .second) ≡ some k → (k ≡ 0 → ⊥) → o .block ≡ block
   -- on the store, after any history and any cut: a place that no landed change names holds its opening byte, any other the byte of the last accepted
   -- landed change that names it
   pub store : (h : History) → Happened h → (new : ℕ → Bool) (p : ℕ) → p < imageBytes
