@@ -9,4 +9,5 @@ pub mod Counted
 pub mod Holds
 pub mod Told
 pub mod OnStore
+pub mod Joint
 pub mod BadKinds

@@ -4,5 +4,6 @@ pub mod Printed
 pub mod Seen
 pub mod Inside
 pub mod Replayed
+pub mod Joint
 pub mod OnStore
 pub mod BadKinds
