@@ -8,7 +8,7 @@ use lib.ListN.{length, getD}
 use Rattle.masks.specs.Sets.{has}
 use Rattle.rules.specs.declared.Slot.{Slot}
 use Rattle.rules.specs.Slots.{roomOf}
-use Rattle.slots.specs.declared.types.Verdict.{Verdict}
+use Rattle.sound.specs.declared.types.Verdict.{Verdict}
 use Rattle.rules.specs.Sizes.{blocks, blockBytes, mostBytes, lastNumber}
 
 -- first is 1 to 1,000,000,000; next is from first to 1,000,000,001

@@ -5,13 +5,9 @@ ghost use Rattle.ground.specs.Decides.{Decides};
 ghost use Rattle.masks.specs.Sets.{setOf};
 ghost use Rattle.rules.specs.Slots.{hasRoom};
 ghost use Rattle.rules.specs.Table.{Sound, tableOf};
-ghost use Rattle.slots.specs.SlotSound.{HeaderInRange, InRange, Alone, Marking, unsound};
-ghost use Rattle.slots.specs.Walks.{IsVerdict};
-use crate::setting::rooms;
+ghost use Rattle.sound.specs.SlotSound.{HeaderInRange, InRange, Alone, Marking, unsound};
+ghost use Rattle.sound.specs.Verdict.{IsVerdict};
 use crate::types::Verdict;
-use crate::walks::find;
-use crate::words::is_used;
-use crate::words::room_of;
 use rules::Hold;
 use rules::Setting;
 use rules::Slot;
@@ -22,6 +18,10 @@ use rules::sizes::LAST_NEXT;
 use rules::sizes::LAST_NUMBER;
 use rules::sizes::MOST_LEN;
 use rules::sizes::SLOTS;
+use slots::setting::rooms;
+use slots::walks::find;
+use slots::words::is_used;
+use slots::words::room_of;
 
 // Whether the first and the next number are within their bounds.
 fn header_in_range(first: u32, next: u32) -> bool

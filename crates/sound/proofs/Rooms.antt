@@ -11,7 +11,7 @@ use Rattle.rules.specs.declared.Slot.{Slot}
 use Rattle.rules.specs.Slots.{hasRoom}
 use Rattle.rules.specs.Table.{slotAt, used, HasRoom}
 use Rattle.rules.proofs.Words.{has-room-used}
-use Rattle.slots.proofs.Gathered.{gathered, gathered-more, gathered-all, gathered-only}
+use Rattle.sound.proofs.Gathered.{gathered, gathered-more, gathered-all, gathered-only}
 
 -- slot i gives its room
 abbrev pub roomed : List Slot → ℕ → ℕ → Bool

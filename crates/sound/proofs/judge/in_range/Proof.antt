@@ -1,8 +1,8 @@
--- `slots::sound::in_range` meets its contract: each test is a field of InRange. Assumes nothing.
+-- `sound::judge::in_range` meets its contract: each test is a field of InRange. Assumes nothing.
 use native.Mathlib.Omega.{arith}
 use borrow.Author.Needs.{needs}
-use Rattle.slots.proofs.sound.in_range.Statement.{statement}
-use Rattle.slots.proofs.sound.in_range.Tie as tie
+use Rattle.sound.proofs.judge.in_range.Statement.{statement}
+use Rattle.sound.proofs.judge.in_range.Tie as tie
 
 returns : tie.Need-returns
 returns c = λ r. omega (arith, c .if1 .taken, r .number-least)

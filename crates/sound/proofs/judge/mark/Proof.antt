@@ -1,4 +1,4 @@
--- `slots::sound::mark` meets its contract: the mark of n is put where it is looked up, and no mark goes. Assumes nothing.
+-- `sound::judge::mark` meets its contract: the mark of n is put where it is looked up, and no mark goes. Assumes nothing.
 use Prim.Native.Nat.{ℕ, _/_, _%_, _<_}
 use mathlib.Core.Path.{_≡_, refl, sym, ap, _∙_}
 use mathlib.Core.Bool.{true, _||_}
@@ -13,9 +13,9 @@ use lib.Seq.{getD-set-same, getD-set-other}
 use Rattle.masks.specs.Sets.{has, setOf}
 use Rattle.ground.proofs.Decided.{true-or-l, true-or-r}
 use Rattle.masks.proofs.Laws.{has-set}
-use Rattle.slots.specs.SlotSound.{marked, Marking}
-use Rattle.slots.proofs.sound.mark.Statement.{statement}
-use Rattle.slots.proofs.sound.mark.Tie as tie
+use Rattle.sound.specs.SlotSound.{marked, Marking}
+use Rattle.sound.proofs.judge.mark.Statement.{statement}
+use Rattle.sound.proofs.judge.mark.Tie as tie
 
 -- where the function starts, seen from where the mark has been put
 abbrev start : tie.After-has → tie.Start

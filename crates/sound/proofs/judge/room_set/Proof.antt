@@ -1,4 +1,4 @@
--- `slots::sound::room_set` meets its contract: each arm of the matches is a case of hasRoom. Assumes nothing.
+-- `sound::judge::room_set` meets its contract: each arm of the matches is a case of hasRoom. Assumes nothing.
 use Prim.Native.Nat.{ℕ}
 use mathlib.Core.Path.{_≡_, sym, ap, _∙_}
 use mathlib.Core.Bool.{Bool, false, _||_}
@@ -10,8 +10,8 @@ use Rattle.rules.specs.declared.Hold.{Hold}
 use Rattle.rules.specs.declared.State.{State}
 use Rattle.rules.specs.declared.State.the-variants as state
 use Rattle.rules.specs.Slots.{hasRoom}
-use Rattle.slots.proofs.sound.room_set.Statement.{statement}
-use Rattle.slots.proofs.sound.room_set.Tie as tie
+use Rattle.sound.proofs.judge.room_set.Statement.{statement}
+use Rattle.sound.proofs.judge.room_set.Tie as tie
 
 -- where the state is known to be waiting, hard or soft
 abbrev waiting : tie.After-known-told → tie.After-u

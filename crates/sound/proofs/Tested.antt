@@ -14,12 +14,13 @@ use Rattle.rules.specs.declared.Slot.{Slot}
 use Rattle.rules.specs.Sizes.{slots}
 use Rattle.rules.specs.Settings.{rooms}
 use Rattle.rules.specs.Table.{Sound, tableOf, used, slotAt, HasRoom}
-use Rattle.slots.specs.SlotSound.{HeaderInRange, Alone, unsound}
-use Rattle.slots.specs.declared.types.Verdict.{Verdict}
-use Rattle.slots.specs.Walks.{Carries, IsVerdict}
+use Rattle.sound.specs.SlotSound.{HeaderInRange, Alone, unsound}
+use Rattle.sound.specs.declared.types.Verdict.{Verdict}
+use Rattle.slots.specs.Walks.{Carries}
+use Rattle.sound.specs.Verdict.{IsVerdict}
 use Rattle.rules.proofs.Rooms.{some-room}
 use Rattle.rules.proofs.Words.{room-is, room-below, has-room-used}
-use Rattle.slots.proofs.Gathered.{gathered, gathered-all, gathered-only}
+use Rattle.sound.proofs.Gathered.{gathered, gathered-all, gathered-only}
 
 -- slot i has not the room of a slot below it
 abbrev pub RoomApart : List Slot → ℕ → Type 0

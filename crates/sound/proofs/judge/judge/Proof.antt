@@ -1,4 +1,4 @@
--- `slots::sound::judge` meets its contract. The loop's invariant: each slot passed is sound alone and apart from those below it, and
+-- `sound::judge::judge` meets its contract. The loop's invariant: each slot passed is sound alone and apart from those below it, and
 -- the sets and the marks have what the slots passed give. Assumes nothing.
 use Prim.Native.Nat.{ℕ, _≤_, _<_, _-_}
 use mathlib.Core.Path.{_≡_, sym, ap, _∙_, subst}
@@ -15,14 +15,14 @@ use Rattle.ground.proofs.Decided.{clash, yes-of, no-of, yes-not, no-not}
 use Rattle.masks.proofs.Laws as sets
 use Rattle.rules.specs.declared.Slot.{Slot}
 use Rattle.rules.specs.Table.{Sound, tableOf, used, slotAt}
-use Rattle.slots.specs.SlotSound.{HeaderInRange, Alone, marked}
+use Rattle.sound.specs.SlotSound.{HeaderInRange, Alone, marked}
 use Rattle.rules.proofs.Rooms.{rooms-most}
 use Rattle.rules.proofs.Words.{room-is, has-room-used}
-use Rattle.slots.proofs.Gathered.{gathered, gathered-none, gathered-pass, gathered-more}
-use Rattle.slots.proofs.Rooms.{roomed, free-roomless, rooms-more, meets-shares, shares-meets}
-use Rattle.slots.proofs.Tested.{Tested, follows, NumberApart, sound-tested, sound-within, tested-sound, not-sound}
-use Rattle.slots.proofs.sound.judge.Statement.{statement}
-use Rattle.slots.proofs.sound.judge.Tie as tie
+use Rattle.sound.proofs.Gathered.{gathered, gathered-none, gathered-pass, gathered-more}
+use Rattle.sound.proofs.Rooms.{roomed, free-roomless, rooms-more, meets-shares, shares-meets}
+use Rattle.sound.proofs.Tested.{Tested, follows, NumberApart, sound-tested, sound-within, tested-sound, not-sound}
+use Rattle.sound.proofs.judge.judge.Statement.{statement}
+use Rattle.sound.proofs.judge.judge.Tie as tie
 
 -- the numbers of the slots below i are marked
 abbrev MarkedBelow : List Slot → ℕ → List ℕ → Type 0

@@ -1,10 +1,10 @@
--- `slots::sound::sound_alone` meets its contract: each answer is what the tests before it leave of one patch. Assumes nothing.
+-- `sound::judge::sound_alone` meets its contract: each answer is what the tests before it leave of one patch. Assumes nothing.
 use mathlib.Core.Path.{sym, _∙_}
 use native.Mathlib.Omega.{arith}
 use borrow.Author.Needs.{needs}
 use Rattle.ground.proofs.Decided.{clash, yes-not, no-not}
-use Rattle.slots.proofs.sound.sound_alone.Statement.{statement}
-use Rattle.slots.proofs.sound.sound_alone.Tie as tie
+use Rattle.sound.proofs.judge.sound_alone.Statement.{statement}
+use Rattle.sound.proofs.judge.sound_alone.Tie as tie
 
 in-range-requires : tie.Need-in-range-requires
 in-range-requires c κs = search needs
