@@ -26,7 +26,7 @@ use Rattle.rules.specs.Refusals.{First, WrongSize}
 use Rattle.rules.specs.Calls.{plainNumber, Opening, Opens, createNumber, hardOrSoft, Creation, Accepts, Creates, writeNumber, Writing, Writes}
 use Rattle.rules.specs.Calls.{Completion, Completes, askNumber, Asks, countNumber, counted, Counts}
 use Rattle.rules.proofs.Rooms.{rooms-most}
-use Rattle.board.specs.Layout.{tableBytes, IsTable, tableIn, bytesOf}
+use Rattle.layout.specs.Layout.{tableBytes, IsTable, tableIn, bytesOf}
 use Rattle.board.specs.Calls.{tableAfter, noTableCases, OpenCall, holdNumber, CreateEnd, createEnd, createNone, CreateCall}
 use Rattle.board.specs.Calls.{WriteEnd, writeEnd, writeNone, WriteCall, CompleteCall, AskCall, CountCall}
 

@@ -35,10 +35,10 @@ use Rattle.rules.proofs.SlotsBy.{slot-by, length-by}
 use Rattle.rules.specs.Passed.{CreateReady, CreatePassed}
 use Rattle.rules.proofs.Granted.{create-passed}
 use Rattle.rules.proofs.Rooms.{rooms-most}
-use Rattle.board.specs.Layout.{numberAt, stateOf, slotIn, slotStart, tableIn, IsTable, inBytes, tagOf, slotBytes, slotsBytes, bytesOf, SlotFits}
-use Rattle.board.specs.Layout.{TableFits}
-use Rattle.board.proofs.Numbers.{number-4, number-8}
-use Rattle.board.proofs.RoundTrip.{read-back}
+use Rattle.layout.specs.Layout.{numberAt, stateOf, slotIn, slotStart, tableIn, IsTable, inBytes, tagOf, slotBytes, slotsBytes, bytesOf, SlotFits}
+use Rattle.layout.specs.Layout.{TableFits}
+use Rattle.layout.proofs.Numbers.{number-4, number-8}
+use Rattle.layout.proofs.RoundTrip.{read-back}
 
 -- ---- what is read from bytes fits
 

@@ -14,7 +14,7 @@ use Rattle.rules.proofs.Cases.{first-one}
 use Rattle.rules.proofs.OneAnswer.{open-one, create-one, write-one, complete-one, ask-one, count-one}
 use Rattle.records.specs.Record.{Call}
 use Rattle.records.proofs.OneAnswer.{record-one}
-use Rattle.board.specs.Layout.{tableBytes, numberAt, slotStart, IsTable, tableIn, bytesOf}
+use Rattle.layout.specs.Layout.{tableBytes, numberAt, slotStart, IsTable, tableIn, bytesOf}
 use Rattle.board.specs.Calls.{tableAfter, OpenCall, CreateEnd, createEnd, createNone, CreateCall, WriteEnd, writeEnd, writeNone, WriteCall}
 use Rattle.board.specs.Calls.{CompleteCall, AskCall, CountCall}
 use Rattle.board.specs.Records.{RecordEnd, recordEnd, RecordCall}

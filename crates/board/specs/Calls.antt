@@ -21,7 +21,7 @@ use Rattle.rules.specs.Ask.{askWord}
 use Rattle.rules.specs.Refusals.{Case, case, First, WrongSize}
 use Rattle.rules.specs.Calls.{plainNumber, Opening, Opens, createNumber, patchNumber, hardOrSoft, Creation, Creates, writeNumber, sentSet, Writing, Writes}
 use Rattle.rules.specs.Calls.{Completion, Completes, askNumber, Asks, countNumber, counted, Counts}
-use Rattle.board.specs.Layout.{tableBytes, IsTable, tableIn, bytesOf}
+use Rattle.layout.specs.Layout.{tableBytes, IsTable, tableIn, bytesOf}
 
 -- the table's bytes afterwards: a granted call writes the whole table, a refused one changes no byte of it
 abbrev pub tableAfter : ℕ → List ℕ → Table → List ℕ

@@ -1,4 +1,3 @@
--- A table as bytes, and what each exported function promises.
-pub mod Layout
+-- What each exported function promises.
 pub mod Calls
 pub mod Records

@@ -1,9 +1,6 @@
 // The cache for C and Rust: six functions over plain numbers and lent bytes, and five that record
 // their calls. The table is 2,056 bytes that the caller keeps, also over the radio's sleep;
-// specs/Layout.antt says what they mean. No function asks anything of its caller: bytes that are no
+// the crate `layout` says what they mean. No function asks anything of its caller: bytes that are no
 // table are refused by number.
 pub mod calls;
-mod from_bytes;
-pub mod layout;
 pub mod recording;
-mod to_bytes;

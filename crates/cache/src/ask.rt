@@ -12,8 +12,8 @@ use rules::sizes::LAST_BLOCK;
 use rules::sizes::LAST_SLOT;
 use slots::number::is_issued;
 use slots::patches::patches_on;
-use slots::sound::is_sound;
 use slots::walks::find;
+use sound::judge::is_sound;
 
 impl Table {
     // Where the patch with the number is. A number in no slot has committed, maybe before this opening.

@@ -10,7 +10,7 @@ use rules::refusals::NOT_SOUND;
 use rules::sizes::LAST_BLOCK;
 use settle::complete::completed;
 use slots::patches::patches_on;
-use slots::sound::is_sound;
+use sound::judge::is_sound;
 
 impl Table {
     pub fn complete(self, block: u32) -> Completed

@@ -45,7 +45,7 @@ use rules::sizes::MOST_NAMED;
 use rules::sizes::ROOM_BYTES;
 use rules::sizes::SLOTS;
 use slots::setting::undo_bytes;
-use slots::sound::judge;
+use sound::judge::judge;
 
 // The old bytes of a soft patch's range, n from place `at`, into the first bytes of its room.
 fn keep(undo: &mut [u8], image: &[u8], hold: Hold, at: usize, n: usize)

@@ -20,8 +20,8 @@ use send::largest::largest;
 use send::sent::sent;
 use slots::patches::patches_on;
 use slots::setting::undo_bytes;
-use slots::sound::is_sound;
 use slots::types::Patches;
+use sound::judge::is_sound;
 
 impl Table {
     // The first of the refusals 1 to 12 that holds, or 0.

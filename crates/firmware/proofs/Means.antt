@@ -22,7 +22,7 @@ use Rattle.demands.specs.History as history
 use Rattle.demands.specs.History.{History}
 use Rattle.demands.specs.Demand3 as demand
 use Rattle.demands.specs.Life.{PowerUp, Lived}
-use Rattle.board.specs.Layout.{tableIn, IsTable, bytesOf}
+use Rattle.layout.specs.Layout.{tableIn, IsTable, bytesOf}
 use Rattle.board.specs.Calls.{tableAfter, CreateEnd, createEnd, WriteEnd, writeEnd, AskCall}
 use Rattle.board.proofs.Kept.{Bytes, bytes-of, open-kept, create-kept, write-kept, complete-kept}
 use Rattle.firmware.specs.Run.{Run, meant, runBegun, runCreate, runWrite, runComplete, RunCall, HasRun, RunsOn, HasLived}

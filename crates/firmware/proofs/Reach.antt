@@ -17,7 +17,7 @@ use Rattle.rules.specs.Refusals.{First}
 use Rattle.rules.specs.Calls.{createNumber, hardOrSoft, writeNumber}
 use Rattle.rules.proofs.Cases.{passed}
 use Rattle.demands.proofs.QuestionSeven.{question-seven}
-use Rattle.board.specs.Layout.{tableBytes, slotStart, numberAt, tableIn, IsTable}
+use Rattle.layout.specs.Layout.{tableBytes, slotStart, numberAt, tableIn, IsTable}
 use Rattle.board.specs.Calls.{noTableCases, tableAfter, holdNumber, CreateEnd, CreateCall, WriteEnd, WriteCall, CompleteCall}
 use Rattle.firmware.specs.Answers.{CreateEndReaches}
 

@@ -11,7 +11,7 @@ use Rattle.rules.specs.Sizes.{slots, imageBytes}
 use Rattle.rules.specs.Create.{Change}
 use Rattle.demands.specs.History.{Accepted, Sent, History, numbersBelow, those}
 use Rattle.demands.specs.Life.{PowerUp, powerUp, storeLeft}
-use Rattle.board.specs.Layout.{tableBytes, tableIn}
+use Rattle.layout.specs.Layout.{tableBytes, tableIn}
 use Rattle.board.specs.Calls.{OpenCall, CreateEnd, CreateCall, WriteEnd, WriteCall, CompleteCall, AskCall, CountCall}
 
 pub record Run : Type 0 where

@@ -1,19 +1,13 @@
 -- ONE ANSWER: any two answers that a promise of this crate admits are equal. The promises that are equations need no such law.
 use Prim.Native.Nat.{ℕ, _<_}
-use mathlib.Core.Path.{_≡_, sym, ap, _∙_}
-use mathlib.Core.Bool.{Bool, cond}
+use mathlib.Core.Path.{_≡_, sym, _∙_}
 use mathlib.Core.List.{List}
 use native.Mathlib.Decide.{decLt}
 use native.Mathlib.Omega.{arith}
 use lib.Seq.{ext-getD}
-use Rattle.masks.specs.Sets.{setOf}
-use Rattle.ground.proofs.Decided.{decides-one}
-use Rattle.rules.specs.declared.Setting.{Setting}
 use Rattle.rules.specs.declared.Slot.{Slot}
-use Rattle.rules.specs.Table.{Sound, tableOf, used}
 use Rattle.slots.specs.declared.types.Patches.{Patches}
-use Rattle.slots.specs.declared.types.Verdict.{Verdict}
-use Rattle.slots.specs.Walks.{Found, NumbersOf, PatchesOn, IsVerdict, takenRooms}
+use Rattle.slots.specs.Walks.{Found, NumbersOf, PatchesOn}
 
 pub found-one : {ss : List Slot} {n a b : ℕ} → Found ss n a → Found ss n b → a ≡ b
 found-one {ss} {n} {a} {b} p q = by (decLt a b) (decLt b a)
@@ -33,13 +27,3 @@ patches-one x y = λ i. record {
   hard = (x .hard ∙ sym (y .hard)) i;
   in_flight = (x .in-flight ∙ sym (y .in-flight)) i;
 }
-
-pub verdict-one : {g : Setting} {first next : ℕ} {ss : List Slot} {v w : Verdict} → IsVerdict g first next ss v → IsVerdict g first next ss w → v ≡ w
-verdict-one {g} {first} {next} {ss} {v} {w} p q = λ i. record {
-  sound = same i;
-  used = (p .used-slots ∙ ap (λ (s : Bool). cond s (setOf (used ss)) 0) same ∙ sym (q .used-slots)) i;
-  rooms = (p .taken-rooms ∙ ap (λ (s : Bool). cond s (takenRooms ss) 0) same ∙ sym (q .taken-rooms)) i;
-}
-  where
-    same : v .sound ≡ w .sound
-    same = decides-one (Sound (tableOf g first next ss)) (v .sound) (w .sound) (p .decides) (q .decides)

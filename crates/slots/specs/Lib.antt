@@ -1,3 +1,2 @@
--- What the walks over the slots give, in the words of `rules`, and what the private tests decide.
+-- What the walks over the slots give, in the words of `rules`.
 pub mod Walks
-pub mod SlotSound

@@ -1,18 +1,15 @@
 -- Between crates, need not be believed: what the walks over the slots give, in the words of `rules`.
 use Prim.Native.Nat.{ℕ, _≤_, _<_}
 use mathlib.Core.Path.{_≡_}
-use mathlib.Core.Bool.{true, cond}
+use mathlib.Core.Bool.{true}
 use mathlib.Core.List.{List}
 use lib.ListN.{length, getD}
-use Rattle.ground.specs.Decides.{Decides}
 use Rattle.masks.specs.Sets.{setOf, someBelow}
-use Rattle.rules.specs.declared.Setting.{Setting}
 use Rattle.rules.specs.declared.Slot.{Slot}
 use Rattle.rules.specs.Sizes.{slots}
 use Rattle.rules.specs.Slots.{hasRoom}
-use Rattle.rules.specs.Table.{Sound, tableOf, used, slotAt, waitsOn, hardOn, fliesOn}
+use Rattle.rules.specs.Table.{used, slotAt, waitsOn, hardOn, fliesOn}
 use Rattle.slots.specs.declared.types.Patches.{Patches}
-use Rattle.slots.specs.declared.types.Verdict.{Verdict}
 
 -- slot i is in use and has the number n
 abbrev pub Carries : List Slot → ℕ → ℕ → Type 0
@@ -38,9 +35,3 @@ pub record PatchesOn (ss : List Slot) (b : ℕ) (p : Patches) : Type 0 where
   pub waiting : p .waiting ≡ setOf (waitsOn ss b)
   pub hard : p .hard ≡ setOf (hardOn ss b)
   pub in-flight : p .in_flight ≡ setOf (fliesOn ss b)
-
--- v says whether the table is sound, which slots are in use and which rooms are taken; of a table that is not sound it says no slot and no room
-pub record IsVerdict (g : Setting) (first next : ℕ) (ss : List Slot) (v : Verdict) : Type 0 where
-  pub decides : Decides (Sound (tableOf g first next ss)) (v .sound)
-  pub used-slots : v .used ≡ cond (v .sound) (setOf (used ss)) 0
-  pub taken-rooms : v .rooms ≡ cond (v .sound) (takenRooms ss) 0

@@ -8,9 +8,9 @@ use Rattle.rules.specs.declared.AskAnswer.the-variants as ask
 use Rattle.rules.specs.Ask.{askWord}
 use Rattle.rules.specs.Calls.{askNumber}
 use Rattle.cache.specs.Seen.{seen}
-use Rattle.board.specs.Layout.{IsTable, tableIn}
+use Rattle.layout.specs.Layout.{IsTable, tableIn}
 use Rattle.board.specs.Calls.{AskCall}
-use Rattle.board.proofs.Length.{read-whole}
+use Rattle.layout.proofs.Length.{read-whole}
 use Rattle.board.proofs.Answers.{ask-none, ask-here}
 use borrow.Author.Needs.{needs}
 use Rattle.board.proofs.calls.board_ask.Statement.{statement}

@@ -4,8 +4,8 @@ use mathlib.Core.Path.{_≡_, _∙_}
 use denote.Ref.{now}
 use Rattle.ground.proofs.Decided.{yes-not, no-not}
 use Rattle.cache.specs.Seen.{seen, completion}
-use Rattle.board.specs.Layout.{IsTable, tableIn}
-use Rattle.board.proofs.Length.{read-whole, stored-whole}
+use Rattle.layout.specs.Layout.{IsTable, tableIn}
+use Rattle.layout.proofs.Length.{read-whole, stored-whole}
 use Rattle.board.proofs.Answers.{complete-none, complete-granted-here, complete-refused-here}
 use borrow.Author.Needs.{needs}
 use Rattle.board.proofs.calls.board_complete.Statement.{statement}

@@ -7,9 +7,9 @@ use Rattle.rules.specs.declared.CountAnswer.{CountAnswer}
 use Rattle.rules.specs.declared.CountAnswer.the-variants as count
 use Rattle.rules.specs.Calls.{countNumber, counted}
 use Rattle.cache.specs.Seen.{seen}
-use Rattle.board.specs.Layout.{IsTable, tableIn}
+use Rattle.layout.specs.Layout.{IsTable, tableIn}
 use Rattle.board.specs.Calls.{CountCall}
-use Rattle.board.proofs.Length.{read-whole}
+use Rattle.layout.proofs.Length.{read-whole}
 use Rattle.board.proofs.Answers.{count-none, count-here}
 use borrow.Author.Needs.{needs}
 use Rattle.board.proofs.calls.board_count.Statement.{statement}

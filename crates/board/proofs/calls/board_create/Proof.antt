@@ -8,8 +8,8 @@ use Rattle.rules.specs.declared.Hold.{Hold}
 use Rattle.rules.specs.Calls.{Creation}
 use Rattle.rules.proofs.Cases.{holds, passes}
 use Rattle.cache.specs.Seen.{seen, creation}
-use Rattle.board.specs.Layout.{IsTable, tableIn}
-use Rattle.board.proofs.Length.{read-whole, stored-whole}
+use Rattle.layout.specs.Layout.{IsTable, tableIn}
+use Rattle.layout.proofs.Length.{read-whole, stored-whole}
 use Rattle.board.proofs.Answers.{create-none, hold-fits, create-granted-here, create-refused-here}
 use borrow.Author.Needs.{needs}
 use Rattle.board.proofs.calls.board_create.Statement.{statement}

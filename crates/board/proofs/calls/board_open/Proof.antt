@@ -3,7 +3,7 @@ use Prim.Native.Nat.{ℕ}
 use mathlib.Core.Path.{_∙_}
 use Rattle.rules.specs.declared.Answer.the-variants as plain
 use Rattle.cache.specs.Seen.{opening}
-use Rattle.board.proofs.Length.{stored-whole}
+use Rattle.layout.proofs.Length.{stored-whole}
 use Rattle.board.proofs.Answers.{open-other, open-here}
 use borrow.Author.Needs.{needs}
 use Rattle.board.proofs.calls.board_open.Statement.{statement}

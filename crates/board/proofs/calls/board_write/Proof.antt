@@ -7,8 +7,8 @@ use Rattle.ground.proofs.Decided.{yes-not, no-not}
 use Rattle.rules.specs.Calls.{Writing}
 use Rattle.rules.proofs.Cases.{holds, passes}
 use Rattle.cache.specs.Seen.{seen, writing}
-use Rattle.board.specs.Layout.{IsTable, tableIn}
-use Rattle.board.proofs.Length.{read-whole, stored-whole}
+use Rattle.layout.specs.Layout.{IsTable, tableIn}
+use Rattle.layout.proofs.Length.{read-whole, stored-whole}
 use Rattle.board.proofs.Answers.{write-none, write-granted-here, write-refused-here}
 use borrow.Author.Needs.{needs}
 use Rattle.board.proofs.calls.board_write.Statement.{statement}

@@ -1,0 +1,2 @@
+-- A table as bytes.
+pub mod Layout
