@@ -3,3 +3,4 @@ pub mod Answers
 pub mod OneAnswer
 pub mod Recorded
 pub mod Kept
+pub mod Joint

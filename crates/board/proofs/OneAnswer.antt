@@ -11,13 +11,13 @@ use Rattle.rules.specs.Create.{Change}
 use Rattle.rules.specs.Ask.{askWord}
 use Rattle.rules.specs.Calls.{Opening, Completion, plainNumber, askNumber, countNumber, counted}
 use Rattle.rules.proofs.Cases.{first-one}
-use Rattle.rules.proofs.OneAnswer.{open-one, create-one, write-one, complete-one, ask-one, count-one}
+use Rattle.rules.proofs.OneAnswer.{open-one, create-one, write-one, complete-one, complete-write-one, ask-one, count-one}
 use Rattle.records.specs.Record.{Call}
-use Rattle.records.proofs.OneAnswer.{record-one}
+use Rattle.records.proofs.OneAnswer.{record-one, joint-record-one}
 use Rattle.layout.specs.Layout.{tableBytes, numberAt, slotStart, IsTable, tableIn, bytesOf}
 use Rattle.board.specs.Calls.{tableAfter, OpenCall, CreateEnd, createEnd, createNone, CreateCall, WriteEnd, writeEnd, writeNone, WriteCall}
-use Rattle.board.specs.Calls.{CompleteCall, AskCall, CountCall}
-use Rattle.board.specs.Records.{RecordEnd, recordEnd, RecordCall}
+use Rattle.board.specs.Calls.{CompleteCall, JointEnd, jointEnd, JointCall, AskCall, CountCall}
+use Rattle.board.specs.Records.{RecordEnd, recordEnd, RecordCall, JointRecordCall}
 
 -- bytes are a table or they are not
 tags-to : (bytes : List ℕ) (n : ℕ) → Dec ((i : ℕ) → i < n → numberAt bytes (slotStart i) 4 ≤ 4)
@@ -35,7 +35,7 @@ tags-to bytes (suc n) = by (tags-to bytes n) (decLe (numberAt bytes (slotStart n
     by (yes f) (no d) = no (λ g. d (g n (omega arith)))
     by (yes f) (yes h) = yes (λ i l. last f h i l (ℕ-discrete i n))
 
-table-or-not : (bytes : List ℕ) → Dec (IsTable bytes)
+pub table-or-not : (bytes : List ℕ) → Dec (IsTable bytes)
 table-or-not bytes = by (ℕ-discrete (length bytes) tableBytes) (tags-to bytes slots)
   where
     by : Dec (length bytes ≡ tableBytes) → Dec ((i : ℕ) → i < slots → numberAt bytes (slotStart i) 4 ≤ 4) → Dec (IsTable bytes)
@@ -96,6 +96,17 @@ module _ {table : List ℕ} where
           )
       by (no n) = (p .no-table n .0 ∙ sym (q .no-table n .0), p .no-table n .1 ∙ sym (q .no-table n .1))
 
+  pub joint-call-one : {image undo handed : List ℕ} {x y : ℕ} {e e′ : JointEnd} → JointCall table image undo handed x y e
+      → JointCall table image undo handed x y e′ → e ≡ e′
+  joint-call-one {image} {undo} {handed} {x} {y} {e} {e′} p q = by (table-or-not table)
+    where
+      by : Dec (IsTable table) → e ≡ e′
+      by (yes i) =
+          let a = p .is-table i in
+          let b = q .is-table i in
+          a .2 ∙ ap (jointEnd table) (complete-write-one (tableIn table) image undo handed x y (a .0) (b .0) (a .1) (b .1)) ∙ sym (b .2)
+      by (no n) = p .no-table n ∙ sym (q .no-table n)
+
   pub ask-call-one : {n k k′ s s′ : ℕ} → AskCall table n k s → AskCall table n k′ s′ → (k ≡ k′) × (s ≡ s′)
   ask-call-one {n} {k} {k′} {s} {s′} p q = by (table-or-not table)
     where
@@ -124,3 +135,10 @@ record-call-one buffer c e e′ p q =
     let a = p .is in
     let b = q .is in
     a .2 ∙ ap recordEnd (record-one buffer c (a .0) (b .0) (a .1) (b .1)) ∙ sym (b .2)
+
+-- and the one for the joint call
+pub joint-record-call-one : (buffer : List ℕ) (x y first : ℕ) (e e′ : RecordEnd) → JointRecordCall buffer x y first e → JointRecordCall buffer x y first e′ → e ≡ e′
+joint-record-call-one buffer x y first e e′ p q =
+    let a = p .is in
+    let b = q .is in
+    a .2 ∙ ap recordEnd (joint-record-one buffer x y first (a .0) (b .0) (a .1) (b .1)) ∙ sym (b .2)

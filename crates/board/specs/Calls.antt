@@ -11,6 +11,8 @@ use lib.ListN.{length}
 use Rattle.rules.specs.declared.Setting.the-variants.{Board}
 use Rattle.rules.specs.declared.Hold.{Hold}
 use Rattle.rules.specs.declared.Hold.the-variants as hold
+use Rattle.rules.specs.declared.SecondAnswer.{SecondAnswer}
+use Rattle.rules.specs.declared.SecondAnswer.the-variants as second
 use Rattle.rules.specs.declared.AskAnswer.{AskAnswer}
 use Rattle.rules.specs.declared.CountAnswer.{CountAnswer}
 use Rattle.rules.specs.Sizes.{imageBytes, blockBytes}
@@ -21,6 +23,7 @@ use Rattle.rules.specs.Ask.{askWord}
 use Rattle.rules.specs.Refusals.{Case, case, First, WrongSize}
 use Rattle.rules.specs.Calls.{plainNumber, Opening, Opens, createNumber, patchNumber, hardOrSoft, Creation, Creates, writeNumber, sentSet, Writing, Writes}
 use Rattle.rules.specs.Calls.{Completion, Completes, askNumber, Asks, countNumber, counted, Counts}
+use Rattle.rules.specs.Joint.{Joint, CompletesWrites, secondSet}
 use Rattle.layout.specs.Layout.{tableBytes, IsTable, tableIn, bytesOf}
 
 -- the table's bytes afterwards: a granted call writes the whole table, a refused one changes no byte of it
@@ -102,6 +105,45 @@ pub record CompleteCall (table : List ℕ) (block refusal : ℕ) (after : List �
   pub is-table : IsTable table → (o : Completion) × Completes (tableIn table) block o × (refusal ≡ plainNumber (o .answer))
       × (after ≡ tableAfter (plainNumber (o .answer)) table (o .table))
   pub no-table : (IsTable table → ⊥) → (refusal ≡ 2) × (after ≡ table)
+
+-- THE JOINT CALL. second: the write's refusal number, 0 granted; or, where completing was refused, not tried, a number that no refusal has
+abbrev pub notTried : ℕ
+notTried = 4294967295
+
+abbrev pub secondAs : SecondAnswer → ℕ
+secondAs (second.Granted s) = 0
+secondAs (second.Refused k) = k
+secondAs second.NotTried = notTried
+
+-- what it leaves; first: completing's refusal number; set: bit i where slot i was sent
+pub record JointEnd : Type 0 where
+  pub first : ℕ
+  pub second : ℕ
+  pub set : ℕ
+  pub table : List ℕ
+  pub image : List ℕ
+  pub undo : List ℕ
+  pub handed : List ℕ
+
+-- the table is written where completing is granted, also where the write is refused: the completion stands
+abbrev pub jointEnd : List ℕ → Joint → JointEnd
+jointEnd table o = record {
+  first = plainNumber (o .first);
+  second = secondAs (o .second);
+  set = secondSet (o .second);
+  table = tableAfter (plainNumber (o .first)) table (o .table);
+  image = o .image;
+  undo = o .undo;
+  handed = o .block;
+}
+
+-- where there is no table, completing is refused 2, whatever is lent
+abbrev pub jointNone : List ℕ → List ℕ → List ℕ → List ℕ → JointEnd
+jointNone table image undo handed = record { first = 2; second = notTried; set = 0; table = table; image = image; undo = undo; handed = handed }
+
+pub record JointCall (table image undo handed : List ℕ) (x y : ℕ) (e : JointEnd) : Type 0 where
+  pub is-table : IsTable table → (o : Joint) × CompletesWrites (tableIn table) image undo handed x y o × (e ≡ jointEnd table o)
+  pub no-table : (IsTable table → ⊥) → e ≡ jointNone table image undo handed
 
 -- ASK. state: 0 no word, 1 waiting, 2 in flight, 3 committed
 pub record AskCall (table : List ℕ) (asked refusal state : ℕ) : Type 0 where

@@ -1,3 +1,4 @@
 -- What each exported function promises.
 pub mod Calls
 pub mod Records
+pub mod Joint

@@ -1,10 +1,12 @@
-// The six exported functions. Each reads the table from its bytes, calls the method of `cache` on
+// The seven exported functions. Each reads the table from its bytes, calls the method of `cache` on
 // it and, granted, writes the next table back. Every call writes the numbers behind its pointers.
 ghost use Prim.Native.Nat.{_<_};
 ghost use mathlib.Core.Path.{_≡_};
 ghost use mathlib.Core.Option.{some};
 ghost use Rattle.rules.specs.Create.{changeOf};
-ghost use Rattle.board.specs.Calls.{OpenCall, CreateCall, WriteCall, CompleteCall, AskCall, CountCall, holdNumber};
+ghost use Rattle.board.specs.Calls.{OpenCall, CreateCall, WriteCall, CompleteCall, JointCall, AskCall, CountCall};
+ghost use Rattle.board.specs.Calls.{holdNumber, secondAs};
+ghost use Rattle.rules.specs.Joint.{secondSet};
 use cache::types::Table;
 use layout::from_bytes::is_table;
 use layout::from_bytes::table_in;
@@ -15,6 +17,7 @@ use rules::AskAnswer;
 use rules::CountAnswer;
 use rules::CreateAnswer;
 use rules::Hold;
+use rules::SecondAnswer;
 use rules::Setting;
 use rules::WriteAnswer;
 use rules::refusals::BUFFER_SIZE;
@@ -156,6 +159,72 @@ pub extern "C" fn board_complete(table: &mut [u8], block: u32) -> u32
     let o = came.complete(block);
     let answer = o.answer;
     match answer {
+        Answer::Granted => {
+            let next = o.table;
+            store(table, next);
+            0
+        }
+        Answer::Refused(k) => k,
+    }
+}
+
+// The second answer where completing was refused. No refusal has this number.
+const NOT_TRIED: u32 = 4294967295;
+
+fn second_number(a: SecondAnswer) -> u32
+    ensures { λ r. ⌜ r ≡ secondAs a ⌝ }
+{
+    match a {
+        SecondAnswer::Granted(_) => 0,
+        SecondAnswer::Refused(k) => k,
+        SecondAnswer::NotTried => NOT_TRIED,
+    }
+}
+
+fn second_set(a: SecondAnswer) -> u64
+    ensures { λ r. ⌜ r ≡ secondSet a ⌝ }
+{
+    match a {
+        SecondAnswer::Granted(s) => s,
+        SecondAnswer::Refused(_) => 0,
+        SecondAnswer::NotTried => 0,
+    }
+}
+
+#[no_mangle]
+pub extern "C" fn board_complete_write(
+    table: &mut [u8],
+    image: &[u8],
+    undo: &[u8],
+    handed: &mut [u8],
+    x: u32,
+    y: u32,
+    second: &mut u32,
+    set: &mut u64,
+) -> u32
+    ensures { λ r. ⌜ JointCall (now (table .entry)) (now (image .entry)) (now (undo .entry)) (now (handed .entry)) x y
+        (record {
+          first = r;
+          second = now (second .exit);
+          set = now (set .exit);
+          table = now (table .exit);
+          image = now (image .exit);
+          undo = now (undo .exit);
+          handed = now (handed .exit);
+        }) ⌝ }
+{
+    *second = NOT_TRIED;
+    *set = 0;
+    if !is_table(table) {
+        return NOT_SOUND;
+    }
+    let came = table_in(table);
+    let o = came.complete_write(image, undo, handed, x, y);
+    let answer = o.second;
+    *second = second_number(answer);
+    *set = second_set(answer);
+    let first = o.first;
+    match first {
         Answer::Granted => {
             let next = o.table;
             store(table, next);

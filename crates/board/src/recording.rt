@@ -1,13 +1,15 @@
-// The writer of records for C and Rust: five exported functions, one for each call that a trace has.
-// They know no table: a record says what was asked, so a refused call has one like a granted one.
+// The writer of records for C and Rust: five exported functions, one for each call that a trace has,
+// and one for the joint call, which is recorded as the calls it made. They know no table: a record
+// says what was asked, so a refused call has one like a granted one.
 ghost use Prim.Native.Nat.{_≤_};
 ghost use mathlib.Core.Path.{_≡_};
 ghost use Rattle.rules.specs.Create.{changeOf};
 ghost use Rattle.records.specs.Record.{recordBytes, opens, creates, writes, completes, cuts};
 ghost use Rattle.records.specs.Writer.{recordNumber, recordLength};
-ghost use Rattle.board.specs.Records.{RecordCall};
+ghost use Rattle.board.specs.Records.{RecordCall, JointRecordCall};
 use records::types::Recorded;
 use records::writer::complete;
+use records::writer::complete_write;
 use records::writer::create;
 use records::writer::cut;
 use records::writer::open;
@@ -75,6 +77,23 @@ pub extern "C" fn board_record_complete(buffer: &mut [u8], block: u32, length: &
         (record { refusal = r; length = now (length .exit); buffer = now (buffer .exit) }) ⌝ }
 {
     let answer = complete(buffer, block);
+    *length = length_of(answer);
+    refusal_of(answer)
+}
+
+// `first` is what completing answered.
+#[no_mangle]
+pub extern "C" fn board_record_complete_write(
+    buffer: &mut [u8],
+    x: u32,
+    y: u32,
+    first: u32,
+    length: &mut u32,
+) -> u32
+    ensures { λ r. ⌜ JointRecordCall (now (buffer .entry)) x y first
+        (record { refusal = r; length = now (length .exit); buffer = now (buffer .exit) }) ⌝ }
+{
+    let answer = complete_write(buffer, x, y, first);
     *length = length_of(answer);
     refusal_of(answer)
 }
