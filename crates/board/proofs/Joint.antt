@@ -19,7 +19,7 @@ use Rattle.board.proofs.Kept.{Bytes, complete-kept}
 use Rattle.board.proofs.OneAnswer.{table-or-not}
 
 -- a write that was tried has its own number
-tried-as : (a : WriteAnswer) → secondAs (tried a) ≡ writeNumber a
+pub tried-as : (a : WriteAnswer) → secondAs (tried a) ≡ writeNumber a
 tried-as (write.Granted s) = refl
 tried-as (write.Refused k) = refl
 

@@ -31,7 +31,7 @@ sent-number : (goes : Bool) (s : Slot) → sentSlot goes s .number ≡ s .number
 sent-number true s = refl
 sent-number false s = refl
 
-numbers-left : (t : Table) (s : ℕ) → numbersBelow (sent t s .slots) s slots ≡ numbersBelow (t .slots) s slots
+pub numbers-left : (t : Table) (s : ℕ) → numbersBelow (sent t s .slots) s slots ≡ numbersBelow (t .slots) s slots
 unfolding sent
 numbers-left t s =
     alike (t .slots) (sentSlots (t .slots) s) s slots

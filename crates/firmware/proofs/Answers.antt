@@ -35,6 +35,9 @@ firmware-question-seven = record {
   create-refused = reach.create-refused;
   write-refused = reach.write-refused;
   complete-refused = reach.complete-refused;
+  joint = reach.joint-reaches;
+  joint-refused = reach.joint-refused;
+  joint-write-refused = reach.joint-write-refused;
   store = λ r w new p l. question-seven .store (meant r) (run-is-history w) new p l;
 }
 

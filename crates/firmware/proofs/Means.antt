@@ -185,6 +185,13 @@ means (HasRun.calls w c) = let g = means w in let s = step (g .0) c in (s .after
 pub run-is-history : {r : Run} → HasRun r → history.Happened (meant r)
 run-is-history w = means w .1
 
+-- whose bytes are a table's
+pub run-table : {r : Run} → HasRun r → IsTable (r .bytes)
+run-table w = means w .0 .is-table
+
+pub run-bytes : {r : Run} → HasRun r → Bytes (r .bytes)
+run-bytes w = means w .0 .in-bytes
+
 -- in which ask's 3 is its word committed
 committed-only : (a : AskAnswer) → 3 ≡ askWord a → a ≡ ask.Committed
 committed-only ask.Waiting e = absurd (omega arith)

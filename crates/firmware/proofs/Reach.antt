@@ -14,11 +14,14 @@ use Rattle.rules.specs.Sizes.{slots}
 use Rattle.rules.specs.Table.{Table}
 use Rattle.rules.specs.Create.{Change}
 use Rattle.rules.specs.Refusals.{First}
-use Rattle.rules.specs.Calls.{createNumber, hardOrSoft, writeNumber}
+use Rattle.rules.specs.Calls.{createNumber, hardOrSoft, writeNumber, plainNumber, Writing}
+use Rattle.rules.specs.Joint.{Joint, CompletesWrites}
 use Rattle.rules.proofs.Cases.{passed}
 use Rattle.demands.proofs.QuestionSeven.{question-seven}
 use Rattle.layout.specs.Layout.{tableBytes, slotStart, numberAt, tableIn, IsTable}
 use Rattle.board.specs.Calls.{noTableCases, tableAfter, holdNumber, CreateEnd, CreateCall, WriteEnd, WriteCall, CompleteCall}
+use Rattle.board.specs.Calls.{secondAs, JointEnd, JointCall}
+use Rattle.board.proofs.Joint.{tried-as}
 use Rattle.firmware.specs.Answers.{CreateEndReaches}
 
 -- ---- bytes are a table or they are not
@@ -124,3 +127,43 @@ complete-refused table b k after p d = by (table? table)
     by : Dec (IsTable table) → after ≡ table
     by (yes t) = let q = p .is-table t in q .3 ∙ unwritten _ table (q .0 .table) (λ z. d (q .2 ∙ z))
     by (no n) = p .no-table n .1
+
+-- a write that is not granted, tried or not, leaves the block handed out
+handed-kept : {t : Table} {image undo handed : List ℕ} {x y : ℕ} {o : Joint} → CompletesWrites t image undo handed x y o → (secondAs (o .second) ≡ 0 → ⊥)
+    → o .block ≡ handed
+handed-kept (CompletesWrites.stops c p n e) d = ap (λ (u : Joint). u .block) e
+handed-kept (CompletesWrites.goes-on c p z w q e) d =
+    ap (λ (u : Joint). u .block) e
+    ∙ ap (λ (v : Writing). v .block) (q .refusal (λ g. d (ap (λ (u : Joint). secondAs (u .second)) e ∙ tried-as (w .answer) ∙ g)))
+
+module _ (table image undo handed : List ℕ) (x y : ℕ) (e : JointEnd) (p : JointCall table image undo handed x y e) where
+  pub joint-reaches : (e .image ≡ image) × (e .undo ≡ undo)
+  joint-reaches = by (table? table)
+    where
+      by : Dec (IsTable table) → (e .image ≡ image) × (e .undo ≡ undo)
+      by (yes t) =
+          let q = p .is-table t in
+          subst (λ (u : JointEnd). (u .image ≡ image) × (u .undo ≡ undo)) (sym (q .2))
+          (question-seven .joint (tableIn table) image undo handed x y (q .0) (q .1))
+      by (no n) = let same = p .no-table n in (ap (λ (u : JointEnd). u .image) same, ap (λ (u : JointEnd). u .undo) same)
+
+  pub joint-refused : (e .first ≡ 0 → ⊥) → (e .table ≡ table) × (e .handed ≡ handed)
+  joint-refused d = by (table? table)
+    where
+      by : Dec (IsTable table) → (e .table ≡ table) × (e .handed ≡ handed)
+      by (yes t) =
+          let q = p .is-table t in
+          let o = q .0 in
+          let n : plainNumber (o .first) ≡ 0 → ⊥ = λ z. d (ap (λ (u : JointEnd). u .first) (q .2) ∙ z) in
+          subst (λ (u : JointEnd). (u .table ≡ table) × (u .handed ≡ handed)) (sym (q .2))
+          (unwritten _ table (o .table) n, question-seven .joint-refused (tableIn table) image undo handed x y o (q .1) n .1)
+      by (no n) = let same = p .no-table n in (ap (λ (u : JointEnd). u .table) same, ap (λ (u : JointEnd). u .handed) same)
+
+  pub joint-write-refused : (e .second ≡ 0 → ⊥) → e .handed ≡ handed
+  joint-write-refused d = by (table? table)
+    where
+      by : Dec (IsTable table) → e .handed ≡ handed
+      by (yes t) =
+          let q = p .is-table t in
+          ap (λ (u : JointEnd). u .handed) (q .2) ∙ handed-kept (q .1) (λ z. d (ap (λ (u : JointEnd). u .second) (q .2) ∙ z))
+      by (no n) = ap (λ (u : JointEnd). u .handed) (p .no-table n)

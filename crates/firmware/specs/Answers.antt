@@ -10,7 +10,7 @@ use Rattle.demands.specs.History.{Accepted}
 use Rattle.demands.specs.Demand3.{storeAfterCut, hasLanded, carriedOut, CutSafe, NotesTrue}
 use Rattle.demands.specs.Life.{PowerUp, powerUp, storeLeft, allLanded, every, Onward, AtRest}
 use Rattle.demands.specs.QuestionSeven.{SameBut, Holds}
-use Rattle.board.specs.Calls.{CreateEnd, CreateCall, WriteEnd, WriteCall, CompleteCall, AskCall}
+use Rattle.board.specs.Calls.{CreateEnd, CreateCall, WriteEnd, WriteCall, CompleteCall, JointEnd, JointCall, AskCall}
 use Rattle.firmware.specs.Run.{Run, meant, HasRun, RunsOn, HasLived}
 
 -- question four
@@ -65,6 +65,13 @@ pub record FirmwareQuestionSeven : Type 0 where
   pub write-refused : (table image undo handed : List ℕ) (b : ℕ) (e : WriteEnd) → WriteCall table image undo handed b e → (e .refusal ≡ 0 → ⊥)
       → (e .table ≡ table) × (e .handed ≡ handed)
   pub complete-refused : (table : List ℕ) (b refusal : ℕ) (after : List ℕ) → CompleteCall table b refusal after → (refusal ≡ 0 → ⊥) → after ≡ table
+  -- nor does the joint call change anything lent but the table and the block handed out: where completing is refused nothing at all, where the write is not
+  -- granted not that block
+  pub joint : (table image undo handed : List ℕ) (x y : ℕ) (e : JointEnd) → JointCall table image undo handed x y e → (e .image ≡ image) × (e .undo ≡ undo)
+  pub joint-refused : (table image undo handed : List ℕ) (x y : ℕ) (e : JointEnd) → JointCall table image undo handed x y e → (e .first ≡ 0 → ⊥)
+      → (e .table ≡ table) × (e .handed ≡ handed)
+  pub joint-write-refused : (table image undo handed : List ℕ) (x y : ℕ) (e : JointEnd) → JointCall table image undo handed x y e → (e .second ≡ 0 → ⊥)
+      → e .handed ≡ handed
   -- on the store, after any run and any cut: a place that no landed change names holds its opening byte, any other the byte of the last accepted
   -- landed change that names it
   pub store : (r : Run) → HasRun r → (new : ℕ → Bool) (p : ℕ) → p < imageBytes

@@ -1,3 +1,4 @@
--- Runs of a firmware over the library's functions, and the history that each one is.
+-- Runs of a firmware over the library's functions, the joint call in them, and the history that each one is.
 pub mod Run
+pub mod Joint
 pub mod Answers
