@@ -7,6 +7,7 @@ use rules::AskAnswer;
 use rules::CountAnswer;
 use rules::CreateAnswer;
 use rules::Hold;
+use rules::SecondAnswer;
 use rules::Setting;
 use rules::State;
 use rules::WriteAnswer;
@@ -130,6 +131,37 @@ pub fn complete(t: Table, row: Row, block: u32) -> Table {
     say::field(b" complete block ", block);
     say::text(b": ");
     granted_or(answer);
+    say::text(b"\n");
+    table
+}
+
+fn second(a: SecondAnswer) {
+    match a {
+        SecondAnswer::Granted(set) => {
+            say::text(b"slots");
+            say::set(set);
+        }
+        SecondAnswer::Refused(k) => refused(k),
+        SecondAnswer::NotTried => say::text(b"not tried"),
+    }
+}
+
+// The joint call. The block lent holds 9s here too.
+pub fn complete_write(t: Table, image: &[u8], undo: &[u8], row: Row, x: u32, y: u32) -> Table {
+    let mut handed = [9u8; BLOCK_BYTES];
+    let o = t.complete_write(image, undo, &mut handed, x, y);
+    let completed = o.first;
+    let wrote = o.second;
+    let table = o.table;
+    say::label(row);
+    say::field(b" complete block ", x);
+    say::field(b", write block ", y);
+    say::text(b": ");
+    granted_or(completed);
+    say::text(b", ");
+    second(wrote);
+    say::text(b";");
+    say::runs(&handed);
     say::text(b"\n");
     table
 }

@@ -1,9 +1,10 @@
 // Document 01's examples, with the answers of document 02, requests a and b, run: the session of two pages, its
-// branch and the edges; then examples of joining and of old numbers. Each call's whole answer is a line on
+// branch and the edges; then examples of joining, of old numbers and of the joint call. Each call's whole answer is a line on
 // standard output, to be read beside the papers; `stdout` beside src/ is what it must write.
 mod calls;
 mod edges;
 mod joins;
+mod joint;
 mod old;
 mod pages;
 mod say;
@@ -26,4 +27,5 @@ fn main() {
     old::asked();
     old::named(&mut image, &mut undo);
     old::sleep(&mut image, &mut undo);
+    joint::examples(&mut image, &mut undo);
 }

@@ -5,7 +5,7 @@ use libc::STDOUT_FILENO;
 use rules::sizes::SLOTS;
 
 // The row of the paper's table that a line belongs to, or its opening, its branch, which of the edges,
-// which of the joins, or which of the examples of old numbers.
+// which of the joins, which of the examples of old numbers, or one of the joint call.
 pub enum Row {
     Start,
     P(u32),
@@ -21,6 +21,7 @@ pub enum Row {
     Asked,
     Old,
     Sleep,
+    Joint,
 }
 
 pub fn text(words: &[u8]) {
@@ -47,6 +48,7 @@ pub fn heading(words: &[u8]) {
 // Why a call was refused, after its number.
 pub fn reason(k: u32) {
     match k {
+        1 => text(b" (a lent buffer has not its exact size)"),
         3 => text(b" (block above 63)"),
         4 => text(b" (data length 0 or above 64)"),
         5 => text(b" (offset + length above 256)"),
@@ -80,6 +82,7 @@ pub fn label(of: Row) {
         Row::Asked => text(b"asked"),
         Row::Old => text(b"old"),
         Row::Sleep => text(b"sleep"),
+        Row::Joint => text(b"joint"),
     }
 }
 
