@@ -124,7 +124,7 @@ fn all_cases(pair: Pair, seed: u64, calls: u64, enough: u64) -> bool {
     for (run, what) in [
         (
             fixed::run(pair, &mut driver.cover),
-            "fixed cases: rows as document 01 and requests a and b have them",
+            "fixed cases: rows as document 01 and requests a, b and d have them",
         ),
         (paper::run(pair, &mut driver.cover), "the source paper's figures 3 and 2b, with its numbers"),
         (
