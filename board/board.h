@@ -53,8 +53,8 @@
  *   landed; the bits of other blocks count for nothing. Who was cut appends it at the next start-up, or leaves it to the bench.
  * - Refused, 1: the buffer has not BOARD_RECORD_BYTES. Refused, 16: the call fits no record, as its block is above 255, its offset
  *   above 65,535, or it has more than 255 numbers or, with 4 bytes for each number, more than 1,196 bytes of numbers and data.
- *   Leave such a call out: the cache refuses it too, and nothing changes. But a board_complete_write refused 16 with x at most 255
- *   has completed x: record that with board_record_complete, and leave out the write alone.
+ *   Leave such a call out: the cache refuses it too, and nothing changes. But where board_record_complete_write is refused 16 with x
+ *   at most 255, x has been completed: record that with board_record_complete, and leave out the write alone.
  *
  * THE TABLE is BOARD_TABLE bytes that you keep. Every number in it is little-endian:
  *   0 first (4 bytes), 4 next (4), then 64 slots of 32 bytes, slot i at 8 + 32 * i:
