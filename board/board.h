@@ -1,4 +1,4 @@
-/* The write-before cache for C: six functions over plain numbers and lent bytes, and five that record their calls, proved in
+/* The write-before cache for C: seven functions over plain numbers and lent bytes, and six that record their calls, proved in
  * crates/board.
  *
  * The radio makes changes, each to one block of 256 bytes and each naming earlier changes that must reach the store first. The
@@ -7,6 +7,7 @@
  * Each function returns a refusal number, 0 where it is granted, and writes what else it answers through its pointers to single
  * numbers (refused: 0). Nothing is asked of the values: whatever is wrong is refused by number. A refused call changes no byte of
  * the table and of the lent buffers (but board_open, which refuses with the empty table whose first number is 1).
+ * board_complete_write is two calls in one and has two answers; it returns the first.
  *
  * JOINING. A hard change on a block where a patch waits makes no patch of its own: it joins the one with the lowest number, takes
  * no slot and no new number, and is answered that patch's number, which was given before. So many small changes of one block fill
@@ -31,7 +32,8 @@
  * - After a power cut, fill the image from the store and open again: at which number, see OLD NUMBERS.
  * - One call at a time, and no reset inside one: a call that is broken off leaves the table, the image and the undo area half made.
  * - Pass the bytes handed out to the store as they are, a block whole or not at all. Every write that was granted is to be passed
- *   on, and its completion told with board_complete, but not before the bytes are there: what was told is taken to be on the store.
+ *   on, and its completion told with board_complete or board_complete_write, but not before the bytes are there: what was told is
+ *   taken to be on the store.
  * - Stack: the calls took up to 13,320 bytes when it was read (create; docs/FIGURES.md has each). Keep more than that free.
  * - Pointers, as for any callee that takes a pointer with a length: not null, also where the length is 0 (any valid address will do),
  *   valid for the length, and aligned where they are to 32-bit or 64-bit numbers; tables and buffers of bytes may stand anywhere.
@@ -44,12 +46,15 @@
  * with the same arguments and append the first `length` bytes of its buffer to the trace. One buffer of BOARD_RECORD_BYTES serves
  * for all records; its bytes behind a record stay as they were. No table is lent, and nothing else changes.
  * - A record says what was asked, not what was answered: record a refused call like a granted one. Ask and count are not recorded.
+ * - board_complete_write is recorded as the calls that it made, so after it, with what it returned: the completion alone where that
+ *   was refused, else the completion and the write. Both records are in the one buffer, end to end.
  * - board_record_open comes first, and once: the next power-up is another trace.
  * - board_record_cut comes last: the supply was cut, or the radio sleeps. Bit b of `landed` is set when block b's write in flight
  *   landed; the bits of other blocks count for nothing. Who was cut appends it at the next start-up, or leaves it to the bench.
  * - Refused, 1: the buffer has not BOARD_RECORD_BYTES. Refused, 16: the call fits no record, as its block is above 255, its offset
  *   above 65,535, or it has more than 255 numbers or, with 4 bytes for each number, more than 1,196 bytes of numbers and data.
- *   Leave such a call out: the cache refuses it too, and nothing changes.
+ *   Leave such a call out: the cache refuses it too, and nothing changes. But where board_record_complete_write is refused 16 with x
+ *   at most 255, x has been completed: record that with board_record_complete, and leave out the write alone.
  *
  * THE TABLE is BOARD_TABLE bytes that you keep. Every number in it is little-endian:
  *   0 first (4 bytes), 4 next (4), then 64 slots of 32 bytes, slot i at 8 + 32 * i:
@@ -57,7 +62,7 @@
  *   4 room (4), read for state 2 only and written 0 for the others
  *   8 number (4), 12 block (4), 16 offset (4), 20 length (4), 24 befores (8), bit i for slot i
  * Bytes of another length, or with a state above 4, are no table. A granted open, create, write or complete writes the whole
- * table; ask and count write none of it. */
+ * table, and so does complete_write where the completion is granted; ask and count write none of it. */
 #ifndef BOARD_H
 #define BOARD_H
 
@@ -96,7 +101,10 @@ enum board_refusal {
     BOARD_NO_RECORD = 16
 };
 
-/* A refusal number in words. */
+/* The second answer of board_complete_write where completing was refused: no refusal has this number. */
+#define BOARD_NOT_TRIED 4294967295u
+
+/* A refusal number in words; BOARD_NOT_TRIED too. */
 static inline const char *board_words(uint32_t refusal)
 {
     static const char *const words[] = {
@@ -118,6 +126,8 @@ static inline const char *board_words(uint32_t refusal)
         "first number 0 or above 1,000,000,000",
         "the call fits no record",
     };
+    if (refusal == BOARD_NOT_TRIED)
+        return "not tried";
     return refusal < sizeof words / sizeof words[0] ? words[refusal] : "no refusal has this number";
 }
 
@@ -145,6 +155,14 @@ uint32_t board_write(uint8_t *table, size_t table_len, const uint8_t *image, siz
 /* The block has landed: its changes in flight commit. Tests 2, 3, 14. */
 uint32_t board_complete(uint8_t *table, size_t table_len, uint32_t block);
 
+/* Block x has landed, and block y is to go: board_complete of x, then board_write of y on the table that this gave; x and y may be
+ * the same. Returns the completion's answer: tests 2, 3, 14. second: the write's, which tests as board_write does (1, 2, 3, 11, 12,
+ * 13; the buffers are judged only now), or BOARD_NOT_TRIED where completing was refused, and then no byte changes. Where only the
+ * write is refused the completion stands, and `handed` keeps its bytes. set: as of board_write, 0 unless the write was granted. */
+uint32_t board_complete_write(uint8_t *table, size_t table_len, const uint8_t *image, size_t image_len, const uint8_t *undo,
+                              size_t undo_len, uint8_t *handed, size_t handed_len, uint32_t x, uint32_t y, uint32_t *second,
+                              uint64_t *set);
+
 /* Where the patch with the number is, and so all changes answered it. state: 1 waiting, 2 in flight, 3 committed, as
  * every old number is. Tests 2, 7 (0, or not below next). */
 uint32_t board_ask(const uint8_t *table, size_t table_len, uint32_t asked, uint32_t *state);
@@ -158,6 +176,9 @@ uint32_t board_record_create(uint8_t *record, size_t record_len, uint32_t block,
                              size_t bytes_len, const uint32_t *named, size_t named_len, uint32_t *length);
 uint32_t board_record_write(uint8_t *record, size_t record_len, uint32_t block, uint32_t *length);
 uint32_t board_record_complete(uint8_t *record, size_t record_len, uint32_t block, uint32_t *length);
+/* first: what board_complete_write returned. length: 4, or 8 where first is 0. 16 where x is above 255, or first is 0 and y is. */
+uint32_t board_record_complete_write(uint8_t *record, size_t record_len, uint32_t x, uint32_t y, uint32_t first,
+                                     uint32_t *length);
 uint32_t board_record_cut(uint8_t *record, size_t record_len, uint64_t landed, uint32_t *length);
 
 #ifdef __cplusplus

@@ -8,6 +8,9 @@ pub const UNDO: usize = 1024;
 pub const BLOCK: usize = 256;
 pub const RECORD: usize = 1203;
 
+/// `BOARD_NOT_TRIED` of board.h.
+const NOT_TRIED: u32 = u32::MAX;
+
 /// Kept by the caller, over sleep together with the image and the undo area; board.h has the layout.
 pub type Table = [u8; TABLE];
 
@@ -31,6 +34,7 @@ pub fn words(refusal: u32) -> &'static str {
         14 => "no patch of the block is in flight",
         15 => "first number 0 or above 1,000,000,000",
         16 => "the call fits no record",
+        NOT_TRIED => "not tried",
         _ => "no refusal has this number",
     }
 }
@@ -48,6 +52,14 @@ pub enum State {
     Committed,
 }
 
+/// What the write of a `complete_write` came to: the set of slots sent, the refusal, or that completing was refused before it.
+#[derive(Clone, Copy, Debug, PartialEq, Eq)]
+pub enum Second {
+    Granted(u64),
+    Refused(u32),
+    NotTried,
+}
+
 /// The functions as board.h has them, for buffers that are no arrays of the exact size: those are refused by number.
 /// Nothing checks these declarations against the archive; the bench of the repository calls through them.
 pub mod raw {
@@ -63,6 +75,10 @@ pub mod raw {
             handed: *mut u8, handed_len: usize, block: u32, set: *mut u64,
         ) -> u32;
         pub fn board_complete(table: *mut u8, table_len: usize, block: u32) -> u32;
+        pub fn board_complete_write(
+            table: *mut u8, table_len: usize, image: *const u8, image_len: usize, undo: *const u8, undo_len: usize,
+            handed: *mut u8, handed_len: usize, x: u32, y: u32, second: *mut u32, set: *mut u64,
+        ) -> u32;
         pub fn board_ask(table: *const u8, table_len: usize, asked: u32, state: *mut u32) -> u32;
         pub fn board_count(table: *const u8, table_len: usize, block: u32, count: *mut u32) -> u32;
         pub fn board_record_open(record: *mut u8, record_len: usize, first: u32, length: *mut u32) -> u32;
@@ -72,12 +88,16 @@ pub mod raw {
         ) -> u32;
         pub fn board_record_write(record: *mut u8, record_len: usize, block: u32, length: *mut u32) -> u32;
         pub fn board_record_complete(record: *mut u8, record_len: usize, block: u32, length: *mut u32) -> u32;
+        pub fn board_record_complete_write(
+            record: *mut u8, record_len: usize, x: u32, y: u32, first: u32, length: *mut u32,
+        ) -> u32;
         pub fn board_record_cut(record: *mut u8, record_len: usize, landed: u64, length: *mut u32) -> u32;
     }
 }
 
-use raw::{board_ask, board_complete, board_count, board_create, board_open, board_write};
-use raw::{board_record_complete, board_record_create, board_record_cut, board_record_open, board_record_write};
+use raw::{board_ask, board_complete, board_complete_write, board_count, board_create, board_open, board_write};
+use raw::{board_record_complete, board_record_complete_write, board_record_create};
+use raw::{board_record_cut, board_record_open, board_record_write};
 
 fn granted<T>(refusal: u32, answer: T) -> Result<T, u32> {
     if refusal == 0 { Ok(answer) } else { Err(refusal) }
@@ -126,6 +146,22 @@ pub fn write(
 /// The block has landed. Refused 2, 3, 14.
 pub fn complete(table: &mut Table, block: u32) -> Result<(), u32> {
     granted(unsafe { board_complete(table.as_mut_ptr(), TABLE, block) }, ())
+}
+
+/// Block `x` has landed, and block `y` is to go: `complete` of `x`, refused 2, 3, 14, and then, on the table that this gave, `write`
+/// of `y`, refused 3, 11 to 13. Where only the write is refused the completion stands, and `handed` keeps its bytes.
+pub fn complete_write(
+    table: &mut Table, image: &[u8; IMAGE], undo: &[u8; UNDO], handed: &mut [u8; BLOCK], x: u32, y: u32,
+) -> (Result<(), u32>, Second) {
+    let (mut second, mut set) = (0, 0);
+    let first = unsafe {
+        board_complete_write(
+            table.as_mut_ptr(), TABLE, image.as_ptr(), IMAGE, undo.as_ptr(), UNDO, handed.as_mut_ptr(), BLOCK, x, y,
+            &mut second, &mut set,
+        )
+    };
+    let second = match second { 0 => Second::Granted(set), NOT_TRIED => Second::NotTried, refusal => Second::Refused(refusal) };
+    (granted(first, ()), second)
 }
 
 /// Where the patch with the number is, and so all changes answered it; an old number has committed. Refused 2, 7.
@@ -181,6 +217,13 @@ pub fn record_write(record: &mut Record, block: u32) -> Result<&[u8], u32> {
 pub fn record_complete(record: &mut Record, block: u32) -> Result<&[u8], u32> {
     let mut length = 0;
     let refusal = unsafe { board_record_complete(record.as_mut_ptr(), RECORD, block, &mut length) };
+    recorded(record, refusal, length)
+}
+
+/// The records of the calls that a `complete_write` made, end to end; `first` is its first answer. Refused 16.
+pub fn record_complete_write(record: &mut Record, x: u32, y: u32, first: Result<(), u32>) -> Result<&[u8], u32> {
+    let (mut length, first) = (0, first.err().unwrap_or(0));
+    let refusal = unsafe { board_record_complete_write(record.as_mut_ptr(), RECORD, x, y, first, &mut length) };
     recorded(record, refusal, length)
 }
 

@@ -22,17 +22,25 @@ static uint8_t block[BOARD_BLOCK];
 static FILE *trace, *answers; /* null: not kept */
 static uint8_t record[BOARD_RECORD_BYTES];
 static uint32_t length, place;           /* of the last record */
+static int kept;                         /* it is in the trace */
 static uint32_t made[CHANGES], made_len; /* the number of each change that was granted */
 
-/* Appends the record just made to the trace, and what the radio got for the call to the answers. */
-static void keep(uint32_t refusal, const char *format, ...)
+/* Appends what was just recorded to the trace. */
+static void keep(uint32_t refusal)
 {
-    va_list values;
     if (refusal != BOARD_GRANTED)
         printf("not recorded: %s\n", board_words(refusal));
-    if (refusal != BOARD_GRANTED || !trace)
+    kept = refusal == BOARD_GRANTED && trace;
+    if (kept)
+        fwrite(record, 1, length, trace);
+}
+
+/* Appends what the radio got for a call that was kept to the answers. */
+static void got(const char *format, ...)
+{
+    va_list values;
+    if (!kept)
         return;
-    fwrite(record, 1, length, trace);
     fprintf(answers, "%" PRIu32 " ", ++place);
     va_start(values, format);
     vfprintf(answers, format, values);
@@ -49,7 +57,8 @@ static void send(uint32_t to, const uint8_t *bytes, uint64_t set)
 static uint32_t open(uint32_t first)
 {
     uint32_t refusal = board_open(table, sizeof table, first);
-    keep(board_record_open(record, sizeof record, first, &length), "open %" PRIu32, refusal);
+    keep(board_record_open(record, sizeof record, first, &length));
+    got("open %" PRIu32, refusal);
     return refusal;
 }
 
@@ -60,41 +69,67 @@ static uint32_t change(uint32_t at, uint32_t offset, const char *text, const uin
     uint32_t number, hold;
     uint32_t refusal = board_create(table, sizeof table, image, sizeof image, undo, sizeof undo, at, offset, bytes,
                                     strlen(text), after, after_len, &number, &hold);
-    uint32_t fits = board_record_create(record, sizeof record, at, offset, bytes, strlen(text), after, after_len, &length);
+    keep(board_record_create(record, sizeof record, at, offset, bytes, strlen(text), after, after_len, &length));
     printf("create on block %" PRIu32 ": %s, number %" PRIu32 ", hold %" PRIu32 "\n", at, board_words(refusal), number, hold);
     if (refusal == BOARD_GRANTED) {
-        keep(fits, "create 0 %" PRIu32 " %s", number, hold == 1 ? "hard" : "soft");
+        got("create 0 %" PRIu32 " %s", number, hold == 1 ? "hard" : "soft");
         if (made_len < CHANGES)
             made[made_len++] = number;
     } else
-        keep(fits, "create %" PRIu32, refusal);
+        got("create %" PRIu32, refusal);
     return number;
+}
+
+static uint32_t patches(uint64_t set)
+{
+    uint32_t many = 0;
+    for (; set != 0; set &= set - 1)
+        many++;
+    return many;
+}
+
+/* What came of a write: the driver gets the block, or there is a word why not. */
+static void wrote(uint32_t from, uint32_t refusal, uint64_t set)
+{
+    if (refusal == BOARD_GRANTED) {
+        send(from, block, set);
+        got("write 0 %" PRIu32, patches(set));
+        return;
+    }
+    printf("write of block %" PRIu32 ": %s\n", from, board_words(refusal));
+    if (refusal != BOARD_NOT_TRIED)
+        got("write %" PRIu32, refusal);
 }
 
 /* Sends what may go of a block. Called again when the driver is idle, until nothing waits. */
 static void flush(uint32_t from)
 {
     uint64_t set;
-    uint32_t patches = 0;
     uint32_t refusal =
         board_write(table, sizeof table, image, sizeof image, undo, sizeof undo, block, sizeof block, from, &set);
-    uint32_t fits = board_record_write(record, sizeof record, from, &length);
-    if (refusal == BOARD_GRANTED) {
-        send(from, block, set);
-        for (uint64_t left = set; left != 0; left &= left - 1)
-            patches++;
-        keep(fits, "write 0 %" PRIu32, patches);
-    } else {
-        printf("write of block %" PRIu32 ": %s\n", from, board_words(refusal));
-        keep(fits, "write %" PRIu32, refusal);
-    }
+    keep(board_record_write(record, sizeof record, from, &length));
+    wrote(from, refusal, set);
 }
 
 /* The driver says that a block has landed. */
 static uint32_t complete(uint32_t landed)
 {
     uint32_t refusal = board_complete(table, sizeof table, landed);
-    keep(board_record_complete(record, sizeof record, landed, &length), "complete %" PRIu32, refusal);
+    keep(board_record_complete(record, sizeof record, landed, &length));
+    got("complete %" PRIu32, refusal);
+    return refusal;
+}
+
+/* The driver says that a block has landed, and is given the next one at once: one call, recorded as the two that it made. */
+static uint32_t go_on(uint32_t landed, uint32_t from)
+{
+    uint64_t set;
+    uint32_t second;
+    uint32_t refusal = board_complete_write(table, sizeof table, image, sizeof image, undo, sizeof undo, block, sizeof block,
+                                            landed, from, &second, &set);
+    keep(board_record_complete_write(record, sizeof record, landed, from, refusal, &length));
+    got("complete %" PRIu32, refusal);
+    wrote(from, second, set);
     return refusal;
 }
 
@@ -104,13 +139,14 @@ static int cut(void)
     uint32_t state, there = 0;
     for (uint32_t i = 0; i < made_len; i++)
         there += board_ask(table, sizeof table, made[i], &state) == BOARD_GRANTED && state == 3;
-    keep(board_record_cut(record, sizeof record, 0, &length), "cut %" PRIu32, there);
+    keep(board_record_cut(record, sizeof record, 0, &length));
+    got("cut %" PRIu32, there);
     if (!trace)
         return 1;
-    int kept = fclose(trace) == 0;
-    kept = fclose(answers) == 0 && kept;
+    int closed = fclose(trace) == 0;
+    closed = fclose(answers) == 0 && closed;
     trace = answers = NULL;
-    return kept;
+    return closed;
 }
 
 /* The station is stored; gives the number of its entry, 0 where something was refused. */
@@ -123,9 +159,8 @@ static uint32_t store(void)
     flush(2); /* 13: the entry follows the name, which has not landed */
     flush(1);
     flush(2); /* 13 still: the name is only in flight */
-    if (complete(1) != BOARD_GRANTED)
+    if (go_on(1, 2) != BOARD_GRANTED) /* the name has landed, so the entry may go */
         return 0;
-    flush(2);
     return complete(2) == BOARD_GRANTED ? entry : 0;
 }
 

@@ -3,7 +3,7 @@
 
 mod board;
 
-use board::{BLOCK, Hold, IMAGE, RECORD, Record, TABLE, Table, UNDO};
+use board::{BLOCK, Hold, IMAGE, RECORD, Record, Second, TABLE, Table, UNDO};
 
 struct Radio {
     table: Table, // in memory that survives sleep
@@ -32,15 +32,12 @@ impl Radio {
         Ok(number)
     }
 
-    /// Sends what may go of a block; the line printed stands for the radio's own driver.
+    /// Sends what may go of a block.
     fn flush(&mut self, from: u32) -> Result<(), u32> {
         self.trace.extend(board::record_write(&mut self.record, from)?);
         let mut bytes = [0; BLOCK];
         match board::write(&mut self.table, &self.image, &self.undo, &mut bytes, from) {
-            Ok(set) => {
-                let [a, b, c, d, ..] = bytes;
-                println!("block {from} goes, slots {set:x}: {a:02x} {b:02x} {c:02x} {d:02x} ..");
-            }
+            Ok(set) => send(from, &bytes, set),
             Err(refusal) => println!("write of block {from}: {}", board::words(refusal)),
         }
         Ok(())
@@ -52,11 +49,31 @@ impl Radio {
         board::complete(&mut self.table, landed)
     }
 
+    /// The driver says that a block has landed, and is given the next one at once: one call, recorded as the two that it made.
+    fn go_on(&mut self, landed: u32, from: u32) -> Result<(), u32> {
+        let mut bytes = [0; BLOCK];
+        let (first, second) =
+            board::complete_write(&mut self.table, &self.image, &self.undo, &mut bytes, landed, from);
+        self.trace.extend(board::record_complete_write(&mut self.record, landed, from, first)?);
+        match second {
+            Second::Granted(set) => send(from, &bytes, set),
+            Second::Refused(refusal) => println!("write of block {from}: {}", board::words(refusal)),
+            Second::NotTried => println!("write of block {from}: not tried"),
+        }
+        first
+    }
+
     /// The trace ends: nothing is in flight. It is handed out, and the next one begins.
     fn cut(&mut self) -> Result<Vec<u8>, u32> {
         self.trace.extend(board::record_cut(&mut self.record, 0)?);
         Ok(std::mem::take(&mut self.trace))
     }
+}
+
+/// Stands for the radio's own driver.
+fn send(to: u32, bytes: &[u8; BLOCK], set: u64) {
+    let [a, b, c, d, ..] = bytes;
+    println!("block {to} goes, slots {set:x}: {a:02x} {b:02x} {c:02x} {d:02x} ..");
 }
 
 /// The station is stored; gives the number of its entry.
@@ -67,8 +84,7 @@ fn store(radio: &mut Radio) -> Result<u32, u32> {
     radio.flush(2)?; // 13: the entry follows the name, which has not landed
     radio.flush(1)?;
     radio.flush(2)?; // 13 still: the name is only in flight
-    radio.complete(1)?;
-    radio.flush(2)?;
+    radio.go_on(1, 2)?; // the name has landed, so the entry may go
     radio.complete(2)?;
     Ok(entry)
 }

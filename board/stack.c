@@ -1,4 +1,4 @@
-/* Prints the most bytes of stack that each of the six calls was seen to take along one order: hard and soft patches, a hard
+/* Prints the most bytes of stack that each of the seven calls was seen to take along one order: hard and soft patches, a hard
  * patch that turns a soft one, patches taken back and struck. It is what was seen, not a bound. Each step's answer is held to
  * what is expected, so that the order goes where it is said to go. Each call runs on a stack of its own that was painted
  * before; what is no longer painted was used. */
@@ -15,13 +15,13 @@ static uint8_t stack[STACK];
 static uint8_t table[BOARD_TABLE], image[BOARD_IMAGE], undo[BOARD_UNDO], handed[BOARD_BLOCK];
 static ucontext_t caller, callee;
 
-enum kind { NOTHING, OPEN, CREATE, WRITE, COMPLETE, ASK, COUNT, KINDS };
-static const char *names[KINDS] = {"nothing", "open", "create", "write", "complete", "ask", "count"};
+enum kind { NOTHING, OPEN, CREATE, WRITE, COMPLETE, ASK, COUNT, COMPLETE_WRITE, KINDS };
+static const char *names[KINDS] = {"nothing", "open", "create", "write", "complete", "ask", "count", "complete_write"};
 
 struct step {
     enum kind kind;
-    uint32_t block, offset, named, refusal;
-    uint64_t answer; /* create: hold; write: the set sent */
+    uint32_t block, offset, named, refusal; /* complete_write: block x, and y in place of the offset */
+    uint64_t answer; /* create: hold; write: the set sent; complete_write: that, or the second answer where nothing went */
 };
 
 static const struct step *step;
@@ -30,7 +30,7 @@ static uint64_t answer;
 
 static void call(void)
 {
-    uint32_t number, hold, state, count;
+    uint32_t number, hold, state, count, second;
     uint64_t set;
     uint8_t bytes[64];
     memset(bytes, 7, sizeof bytes);
@@ -48,6 +48,11 @@ static void call(void)
         answer = set;
         break;
     case COMPLETE: refusal = board_complete(table, sizeof table, step->block); break;
+    case COMPLETE_WRITE:
+        refusal = board_complete_write(table, sizeof table, image, sizeof image, undo, sizeof undo, handed, sizeof handed,
+                                       step->block, step->offset, &second, &set);
+        answer = second == BOARD_GRANTED ? set : second;
+        break;
     case ASK: refusal = board_ask(table, sizeof table, step->named, &state); break;
     case COUNT: refusal = board_count(table, sizeof table, step->block, &count); break;
     default: refusal = 0;
@@ -105,6 +110,18 @@ int main(void)
         {CREATE, 64, 0, 0, 3, 0},
         {WRITE, 64, 0, 0, 3, 0},
         {ASK, 0, 0, 99, 7, 0},
+        {COMPLETE_WRITE, 5, 6, 0, 14, BOARD_NOT_TRIED},
+        {WRITE, 6, 0, 0, 0, 0x2},
+        {COMPLETE_WRITE, 6, 64, 0, 0, 3},
+        {CREATE, 7, 0, 9, 0, 1},              /* 10 follows 9 */
+        {CREATE, 5, 0, 10, 0, 2},             /* 11, soft, follows 10 */
+        {CREATE, 5, 32, 0, 0, 3},             /* 12, soft */
+        {CREATE, 8, 0, 0, 0, 1},              /* 13 */
+        {WRITE, 8, 0, 0, 0, 0x10},
+        {COMPLETE_WRITE, 8, 5, 0, 0, 0xc},    /* 11 is struck and taken back */
+        {COMPLETE_WRITE, 5, 7, 0, 0, 0x1},
+        {COMPLETE_WRITE, 7, 5, 0, 0, 0x2},
+        {COMPLETE_WRITE, 5, 5, 0, 0, 12},
     };
     size_t most[KINDS] = {0};
     for (size_t i = 0; i < sizeof steps / sizeof steps[0]; i++) {
@@ -118,6 +135,6 @@ int main(void)
         }
     }
     for (size_t kind = OPEN; kind < KINDS; kind++)
-        printf("%-10s %6zu\n", names[kind], most[kind] - most[NOTHING]);
+        printf("%-14s %6zu\n", names[kind], most[kind] - most[NOTHING]);
     return 0;
 }

@@ -382,6 +382,18 @@ uint32_t board_complete(uint8_t *table, size_t table_len, uint32_t block)
     return 0;
 }
 
+uint32_t board_complete_write(uint8_t *table, size_t table_len, const uint8_t *image, size_t image_len, const uint8_t *undo,
+                              size_t undo_len, uint8_t *handed, size_t handed_len, uint32_t x, uint32_t y, uint32_t *second,
+                              uint64_t *set)
+{
+    *second = BOARD_NOT_TRIED;
+    *set = 0;
+    uint32_t first = board_complete(table, table_len, x);
+    if (first == BOARD_GRANTED)
+        *second = board_write(table, table_len, image, image_len, undo, undo_len, handed, handed_len, y, set);
+    return first;
+}
+
 uint32_t board_ask(const uint8_t *table, size_t table_len, uint32_t asked, uint32_t *state)
 {
     struct table t;
@@ -417,6 +429,13 @@ static uint8_t *put_high_first(uint8_t *p, uint64_t n, unsigned bytes)
     return p;
 }
 
+/* Tag, length and a value that is one number. */
+static uint8_t *put_whole(uint8_t *p, uint8_t tag, uint64_t value, unsigned bytes)
+{
+    *p = tag;
+    return put_high_first(put_high_first(p + 1, bytes, 2), value, bytes);
+}
+
 /* A record whose value is one number. */
 static uint32_t put_record(uint8_t *record, size_t record_len, uint8_t tag, uint64_t value, unsigned bytes, uint32_t *length)
 {
@@ -425,9 +444,7 @@ static uint32_t put_record(uint8_t *record, size_t record_len, uint8_t tag, uint
         return BOARD_BUFFER_SIZE;
     if (bytes < 8 && value >> 8 * bytes != 0)
         return BOARD_NO_RECORD;
-    record[0] = tag;
-    put_high_first(put_high_first(record + 1, bytes, 2), value, bytes);
-    *length = 3 + bytes;
+    *length = (uint32_t)(put_whole(record, tag, value, bytes) - record);
     return BOARD_GRANTED;
 }
 
@@ -466,6 +483,22 @@ uint32_t board_record_write(uint8_t *record, size_t record_len, uint32_t block, 
 uint32_t board_record_complete(uint8_t *record, size_t record_len, uint32_t block, uint32_t *length)
 {
     return put_record(record, record_len, 4, block, 1, length);
+}
+
+uint32_t board_record_complete_write(uint8_t *record, size_t record_len, uint32_t x, uint32_t y, uint32_t first,
+                                     uint32_t *length)
+{
+    *length = 0;
+    if (record_len != BOARD_RECORD_BYTES)
+        return BOARD_BUFFER_SIZE;
+    int tried = first == BOARD_GRANTED;
+    if (x > 255 || (tried && y > 255))
+        return BOARD_NO_RECORD;
+    uint8_t *end = put_whole(record, 4, x, 1);
+    if (tried)
+        end = put_whole(end, 3, y, 1);
+    *length = (uint32_t)(end - record);
+    return BOARD_GRANTED;
 }
 
 uint32_t board_record_cut(uint8_t *record, size_t record_len, uint64_t landed, uint32_t *length)

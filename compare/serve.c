@@ -5,9 +5,10 @@
  * out, its length and the part that is other than what is kept (-1 in place of a length: not lent to this call); the answer
  * brings back the part that the call changed. Every number on the pipe is 32 bits, little-endian:
  *   call:   kind (0 open, 1 create, 2 write, 3 complete, 4 ask, 5 count; 6 to 10 the record of an open, a create, a write, a
- *           complete, a cut), two numbers (first, block or asked; offset; a cut's bits, high half first),
- *           four times length, place, count and the bytes; count and bytes of the data; the same of the names
- *   answer: refusal, number, hold, the set's low and high half, state, count; four times place, count and the bytes;
+ *           complete, a cut; 11 complete_write, 12 its records), three numbers (first, block or asked; offset; a cut's bits, high
+ *           half first; x, y and, for the records, the first answer), four times length, place, count and the bytes; count and
+ *           bytes of the data; the same of the names
+ *   answer: refusal, number, hold, the set's low and high half, state, count, second; four times place, count and the bytes;
  *           1 where a byte beside a buffer was changed, else 0; the nanoseconds that the call took
  * A record goes into the buffer of the block handed out, its length into the count. Any other input ends the program with status 1. */
 #define _POSIX_C_SOURCE 200809L
@@ -38,7 +39,7 @@ static _Alignas(8) struct buffer buffers[BUFFERS];
 static uint8_t before[KEPT][LONGEST];
 
 struct answer {
-    uint32_t refusal, number, hold, state, count;
+    uint32_t refusal, number, hold, state, count, second;
     uint64_t set;
 };
 
@@ -113,7 +114,12 @@ static int spilled(unsigned which)
     return 0;
 }
 
-static uint32_t write_record(uint32_t kind, uint32_t a, uint32_t b, uint32_t *length)
+static int is_record(uint32_t kind)
+{
+    return (kind >= 6 && kind <= 10) || kind == 12;
+}
+
+static uint32_t write_record(uint32_t kind, uint32_t a, uint32_t b, uint32_t c, uint32_t *length)
 {
     uint8_t *record = start(HANDED);
     size_t record_len = buffers[HANDED].len;
@@ -125,19 +131,21 @@ static uint32_t write_record(uint32_t kind, uint32_t a, uint32_t b, uint32_t *le
     case 8: return board_record_write(record, record_len, a, length);
     case 9: return board_record_complete(record, record_len, a, length);
     case 10: return board_record_cut(record, record_len, (uint64_t)a << 32 | b, length);
+    case 12: return board_record_complete_write(record, record_len, a, b, c, length);
     default: bad("no such call");
     }
     return 0;
 }
 
-static struct answer call(uint32_t kind, uint32_t a, uint32_t b)
+static struct answer call(uint32_t kind, uint32_t a, uint32_t b, uint32_t c)
 {
     uint8_t *table = start(TABLE), *image = start(IMAGE), *undo = start(UNDO), *handed = start(HANDED);
     size_t table_len = buffers[TABLE].len, image_len = buffers[IMAGE].len, undo_len = buffers[UNDO].len;
-    struct answer r = {0, 0, 0, 0, 0, 0};
-    if (kind > 5) {
+    size_t handed_len = buffers[HANDED].len;
+    struct answer r = {0, 0, 0, 0, 0, 0, 0};
+    if (is_record(kind)) {
         r.count = UNWRITTEN;
-        r.refusal = write_record(kind, a, b, &r.count);
+        r.refusal = write_record(kind, a, b, c, &r.count);
         return r;
     }
     switch (kind) {
@@ -149,7 +157,7 @@ static struct answer call(uint32_t kind, uint32_t a, uint32_t b)
         break;
     case 2:
         r.set = UNWRITTEN;
-        r.refusal = board_write(table, table_len, image, image_len, undo, undo_len, handed, buffers[HANDED].len, a, &r.set);
+        r.refusal = board_write(table, table_len, image, image_len, undo, undo_len, handed, handed_len, a, &r.set);
         break;
     case 3: r.refusal = board_complete(table, table_len, a); break;
     case 4:
@@ -159,6 +167,11 @@ static struct answer call(uint32_t kind, uint32_t a, uint32_t b)
     case 5:
         r.count = UNWRITTEN;
         r.refusal = board_count(table, table_len, a, &r.count);
+        break;
+    case 11:
+        r.set = r.second = UNWRITTEN;
+        r.refusal = board_complete_write(table, table_len, image, image_len, undo, undo_len, handed, handed_len, a, b, &r.second,
+                                         &r.set);
         break;
     default: bad("no such call");
     }
@@ -198,7 +211,7 @@ int main(void)
         if (first == EOF)
             return 0;
         ungetc(first, stdin);
-        uint32_t kind = number_in(), a = number_in(), b = number_in();
+        uint32_t kind = number_in(), a = number_in(), b = number_in(), c = number_in();
         for (unsigned which = 0; which < KEPT; which++)
             buffer_in(which);
         take(start(DATA), buffers[DATA].len = length_in());
@@ -208,12 +221,13 @@ int main(void)
         for (unsigned which = 0; which < BUFFERS; which++)
             paint(which);
         uint64_t began = nanoseconds();
-        struct answer r = call(kind, a, b);
+        struct answer r = call(kind, a, b, c);
         uint64_t took = nanoseconds() - began;
         int beside = 0;
         for (unsigned which = 0; which < BUFFERS; which++)
             beside |= spilled(which);
-        const uint32_t numbers[] = {r.refusal, r.number, r.hold, (uint32_t)r.set, (uint32_t)(r.set >> 32), r.state, r.count};
+        const uint32_t numbers[] = {r.refusal, r.number, r.hold,  (uint32_t)r.set, (uint32_t)(r.set >> 32),
+                                    r.state,   r.count,  r.second};
         for (size_t i = 0; i < sizeof numbers / sizeof numbers[0]; i++)
             number_out(numbers[i]);
         for (unsigned which = 0; which < KEPT; which++)

@@ -93,7 +93,7 @@ fn perform(command: Command, way: Through) -> Result<bool, String> {
         Command::Paper => paper::print(pair(&*under_test()?)),
         Command::Gain { most } => gain::print(&*under_test()?, most),
         Command::Settings { calls } => settings(calls),
-        Command::Once { orders } => bench::once(&*through::library(way)?.1, orders),
+        Command::Once { orders, measured } => bench::once(&*through::library(way)?.1, orders, measured),
         Command::Bench => bench::run().map(|()| true)?,
         Command::Folder => folder::run(&Tested::through(way)?, &folder::cases()?),
         Command::Traces { traces, seed } => many::run(&Tested::through(way)?, traces, seed),
@@ -124,7 +124,7 @@ fn all_cases(pair: Pair, seed: u64, calls: u64, enough: u64) -> bool {
     for (run, what) in [
         (
             fixed::run(pair, &mut driver.cover),
-            "fixed cases: rows as document 01 and requests a and b have them",
+            "fixed cases: rows as document 01 and requests a, b and d have them",
         ),
         (paper::run(pair, &mut driver.cover), "the source paper's figures 3 and 2b, with its numbers"),
         (

@@ -1,5 +1,6 @@
 //! The words of the command line: what is asked for, and which way to what is under test.
 
+use crate::bench::Measured;
 use crate::library::through::{Through, USUAL};
 
 pub const USAGE: &str = "\
@@ -13,7 +14,8 @@ usage: compare COMMAND [WAY]
   paper             the source paper's figures 3 and 2b: its numbers beside ours
   gain [N]          what ends a run of one-byte changes on one page and on eight, without joining and under test;
                     stopped after 1,000,000, or N
-  once [ORDERS]     the benchmark's calls once, for a tool that counts instructions
+  once [ORDERS [joint | parted]]
+                    the benchmark's calls once, for a tool that counts instructions; the joint ones alone, or each as its two
   bench             time a call of the library and of the plain program, both behind a pipe (x86-64)
   folder            every case of the folder traces/ through replay
   traces [N [SEED]] random traces, damaged ones among them, through replay; a quick run's, or N
@@ -43,7 +45,7 @@ pub enum Command {
     Settings { calls: u64 },
     Paper,
     Gain { most: u64 },
-    Once { orders: u64 },
+    Once { orders: u64, measured: Measured },
     Bench,
     Folder,
     Traces { traces: u64, seed: u64 },
@@ -85,8 +87,10 @@ pub fn asked(words: &[String]) -> Result<(Command, Through), String> {
         ["gain", most] => Command::Gain { most: number(most)? },
         ["settings"] => Command::Settings { calls: SETTING_CALLS },
         ["settings", calls] => Command::Settings { calls: number(calls)? },
-        ["once"] => Command::Once { orders: ORDERS },
-        ["once", orders] => Command::Once { orders: number(orders)? },
+        ["once"] => Command::Once { orders: ORDERS, measured: Measured::Single },
+        ["once", orders] => Command::Once { orders: number(orders)?, measured: Measured::Single },
+        ["once", orders, "joint"] => Command::Once { orders: number(orders)?, measured: Measured::Joint },
+        ["once", orders, "parted"] => Command::Once { orders: number(orders)?, measured: Measured::Parted },
         ["bench"] => Command::Bench,
         ["folder"] => Command::Folder,
         ["traces"] => Command::Traces { traces: QUICK_TRACES, seed: TRACES_SEED },

@@ -1,4 +1,4 @@
-//! The rows and edges of document 01 with their exact numbers, as requests a and b have them, and these requests' own examples. Each
+//! The rows and edges of document 01 with their exact numbers, as requests a, b and d have them, and these requests' own examples. Each
 //! row is run on the library, checked against what the documents say, and compared with the model like any other call.
 
 use crate::judge::cover::Cover;
@@ -6,7 +6,7 @@ use crate::judge::run::{Failure, Order, Pair, Run};
 use crate::judge::shrink::{line, said};
 use crate::model::bytes::{TABLE_BYTES, encoded};
 use crate::model::setting::Setting;
-use crate::model::table::{LAST_NUMBER, Slot, Slots, State, Table};
+use crate::model::table::{LAST_NUMBER, NOT_TRIED, Slot, Slots, State, Table};
 use crate::orders::steps::*;
 
 /// What a row must answer, hand out and leave in a slot: a state, and befores.
@@ -51,15 +51,31 @@ fn counts(count: u32) -> Want {
     Want { answer: Answer { count, ..Answer::default() }, ..Want::default() }
 }
 
-/// Slots sent, and the block handed out as runs of (how many, which byte), then zeros.
+/// Slots sent, and the block handed out as runs of (how many, which byte), then zeros. Of a joint call both are granted.
 pub fn sends(slots: &[u32], runs: &[(usize, u8)]) -> Want {
     let set = slots.iter().map(|slot| 1u64 << slot).sum();
-    let mut handed: Vec<u8> = runs.iter().flat_map(|&(count, byte)| vec![byte; count]).collect();
-    handed.resize(256, 0);
-    Want { answer: Answer { set, ..Answer::default() }, handed: Some(handed), ..Want::default() }
+    Want { answer: Answer { set, ..Answer::default() }, ..Want::default() }.handing(runs)
+}
+
+/// A joint call that completes, and whose write is refused.
+fn completes(second: u32) -> Want {
+    Want { answer: Answer { second, ..Answer::default() }, ..Want::default() }
+}
+
+/// A joint call whose completion is refused.
+fn not_tried(refusal: u32) -> Want {
+    Want { answer: Answer { refusal, second: NOT_TRIED, ..Answer::default() }, ..Want::default() }
 }
 
 impl Want {
+    /// The block handed out, now or before, is this.
+    fn handing(mut self, runs: &[(usize, u8)]) -> Want {
+        let mut handed: Vec<u8> = runs.iter().flat_map(|&(count, byte)| vec![byte; count]).collect();
+        handed.resize(256, 0);
+        self.handed = Some(handed);
+        self
+    }
+
     pub fn leaving(mut self, slot: usize, state: State) -> Want {
         self.slot = Some((slot, state));
         self
@@ -640,6 +656,187 @@ fn old_in_a_free_slot() -> Vec<Row> {
     ]
 }
 
+/// P8 and P10 each in one call.
+fn two_pages_in_joint_calls() -> Vec<Row> {
+    let mut rows = up_to_p6();
+    rows.extend([
+        ("P7", write(1), refused(11)),
+        ("P8", complete_write(1, 2), sends(&[1], &[(2, 1), (2, 2)]).leaving(0, State::Free)),
+        ("P9", write(1), refused(13)),
+        (
+            "P10",
+            complete_write(2, 1),
+            sends(&[2], &[(8, 65), (8, 66)]).leaving(2, State::InFlightSoft).following(2, &[]),
+        ),
+        ("the last one lands", complete_write(1, 2), completes(12).leaving(2, State::Free)),
+    ]);
+    rows
+}
+
+/// Completing is refused by each of its numbers: nothing is tried, whatever a write would be answered.
+fn joint_not_tried() -> Vec<Row> {
+    let image = |step: Step| step.lending(Buffer::Image, 16_383);
+    vec![
+        ("open", open(1), granted()),
+        ("1 on block 1", create(1, 0, &[10; 4], &[]), hard(1)),
+        ("2 on block 2 after 1", create(2, 0, &[20; 4], &[1]), hard(2)),
+        ("3 on block 3", create(3, 0, &[30; 4], &[]), hard(3)),
+        ("14, a write of 3 would go", complete_write(1, 3), not_tried(14).leaving(2, State::WaitingHard)),
+        ("14, a write of 2 would be 13", complete_write(1, 2), not_tried(14)),
+        ("14, a write of 4 would be 12", complete_write(1, 4), not_tried(14)),
+        ("14, y above 63", complete_write(1, 64), not_tried(14)),
+        ("14, the same block", complete_write(1, 1), not_tried(14).leaving(0, State::WaitingHard)),
+        ("14, the image short", image(complete_write(1, 3)), not_tried(14)),
+        ("3, a write of 3 would go", complete_write(64, 3), not_tried(3)),
+        ("3, x in its low byte 1", complete_write(257, 3), not_tried(3)),
+        ("3, both above 63", complete_write(u32::MAX, u32::MAX), not_tried(3)),
+        ("3, the image short", image(complete_write(64, 3)), not_tried(3)),
+        ("2, the table short", complete_write(1, 3).lending(Buffer::Table, 2_055), not_tried(2)),
+        ("2, both short", image(complete_write(1, 3)).lending(Buffer::Table, 2_055), not_tried(2)),
+        ("1 goes", write(1), sends(&[0], &[(4, 10)])),
+        ("14, a write of 1 would be 11", complete_write(2, 1), not_tried(14).handing(&[(4, 10)])),
+        ("14, and 3 would go still", complete_write(2, 3), not_tried(14).handing(&[(4, 10)])),
+        ("1 is in flight still", ask(1), state(2)),
+        ("3 waits still", ask(3), state(1)),
+    ]
+}
+
+/// Only the write is refused, by each of its numbers that can come: the completion stands, the block handed out keeps its bytes.
+fn joint_write_refused() -> Vec<Row> {
+    let mut rows = vec![("open", open(1), granted())];
+    for block in 1..=9 {
+        rows.push(("one on each block", create(block, 0, &[block as u8; 4], &[]), hard(block)));
+    }
+    let short = |x| complete_write(x, 9);
+    let kept =
+        |second: u32, x: u32| completes(second).handing(&[(4, x as u8)]).leaving(x as usize - 1, State::Free);
+    let goes = |x: u32| ("one goes", write(x), sends(&[x - 1], &[(4, x as u8)]));
+    rows.extend([
+        goes(1),
+        ("1, the image short", short(1).lending(Buffer::Image, 16_383), kept(1, 1)),
+        ("block 1 has landed", complete(1), refused(14)),
+        goes(2),
+        ("1, the undo area long", short(2).lending(Buffer::Undo, 1_025), kept(1, 2)),
+        ("2 has committed", ask(2), state(3)),
+        goes(3),
+        ("1, the block handed out short", short(3).lending(Buffer::Handed, 255), kept(1, 3)),
+        ("3 has committed", ask(3), state(3)),
+        goes(4),
+        ("1 before 3", complete_write(4, 64).lending(Buffer::Handed, 0).lending(Buffer::Undo, 0), kept(1, 4)),
+        goes(5),
+        ("3, y is 64", complete_write(5, 64), kept(3, 5)),
+        goes(6),
+        ("3, y in its low byte 9", complete_write(6, 265), kept(3, 6)),
+        goes(7),
+        goes(8),
+        (
+            "11, y is in flight",
+            complete_write(7, 8),
+            completes(11).handing(&[(4, 8)]).leaving(6, State::Free),
+        ),
+        ("12, none of y waits", complete_write(8, 7), kept(12, 8)),
+        ("10 on block 1", create(1, 8, &[11; 4], &[]), hard(10).leaving(0, State::WaitingHard)),
+        ("11 on block 2 after 10", create(2, 8, &[12; 4], &[10]), hard(11)),
+        ("9 goes", write(9), sends(&[8], &[(4, 9)])),
+        ("13, y follows 10", complete_write(9, 2), kept(13, 9)),
+        ("9 has committed", ask(9), state(3)),
+        ("none is in flight", complete_write(9, 1), not_tried(14)),
+    ]);
+    rows
+}
+
+/// The same block completed and written: the write alone is refused 11 before it.
+fn joint_same_block() -> Vec<Row> {
+    vec![
+        ("open", open(1), granted()),
+        ("1 on block 1", create(1, 0, &[10; 4], &[]), hard(1)),
+        ("14, none is in flight", complete_write(1, 1), not_tried(14)),
+        ("1 goes", write(1), sends(&[0], &[(4, 10)])),
+        ("2 follows 1", create(1, 8, &[20; 4], &[]), hard(2).following(1, &[0])),
+        ("11 alone", write(1), refused(11)),
+        (
+            "1 lands and 2 goes",
+            complete_write(1, 1),
+            sends(&[1], &[(4, 10), (4, 0), (4, 20)]).leaving(0, State::Free).following(1, &[]),
+        ),
+        ("1 has committed", ask(1), state(3)),
+        ("2 is in flight", ask(2), state(2)),
+        ("3 on block 2", create(2, 0, &[30], &[]), hard(3)),
+        ("4 on block 1 after 3", create(1, 0, &[40], &[3]), hard(4).following(2, &[0, 1])),
+        ("13, 4 follows 3", complete_write(1, 1), completes(13).following(2, &[0]).leaving(1, State::Free)),
+        ("14 again", complete_write(1, 1), not_tried(14)),
+        ("3 goes", write(2), sends(&[0], &[(1, 30)])),
+        ("12, none waits", complete_write(2, 2), completes(12).handing(&[(1, 30)]).following(2, &[])),
+        ("4 goes", write(1), sends(&[2], &[(1, 40), (3, 10), (4, 0), (4, 20)])),
+        ("12, the last one", complete_write(1, 1), completes(12).leaving(2, State::Free)),
+    ]
+}
+
+/// A write that goes only since the completion, where it was refused 13, or that has more patches since it.
+fn joint_helps_the_write() -> Vec<Row> {
+    vec![
+        ("open", open(1), granted()),
+        ("1 on block 1", create(1, 0, &[10; 4], &[]), hard(1)),
+        ("2 on block 2 after 1", create(2, 0, &[20; 4], &[1]), hard(2)),
+        ("3 on block 3", create(3, 0, &[30; 4], &[]), hard(3)),
+        ("4 on block 4 after 3", create(4, 0, &[40; 4], &[3]), hard(4)),
+        ("1 goes", write(1), sends(&[0], &[(4, 10)])),
+        ("13 alone", write(2), refused(13)),
+        ("1 lands and 2 goes", complete_write(1, 2), sends(&[1], &[(4, 20)]).leaving(0, State::Free)),
+        ("5 on block 3 after 2, soft", create(3, 2, &[50; 4], &[2]), soft(5, 0).following(0, &[1, 2])),
+        ("6 on block 3 after 4, soft", create(3, 8, &[60; 4], &[4]), soft(6, 1).following(4, &[2, 3])),
+        (
+            "2 lands; 3 and 5 go, 6 is taken back",
+            complete_write(2, 3),
+            sends(&[0, 2], &[(2, 30), (4, 50)]).leaving(4, State::WaitingSoft { room: 1 }),
+        ),
+        ("3 and 5 land, 4 goes", complete_write(3, 4), sends(&[3], &[(4, 40)])),
+        ("4 lands, 6 goes", complete_write(4, 3), sends(&[4], &[(2, 30), (4, 50), (2, 0), (4, 60)])),
+    ]
+}
+
+/// The supply is cut after a joint call: what it completed is there, what it wrote landed or not.
+fn joint_then_cuts() -> Vec<Row> {
+    vec![
+        ("open", open(1), granted()),
+        ("1 on block 1", create(1, 0, &[10; 4], &[]), hard(1)),
+        ("2 on block 2 after 1", create(2, 0, &[20; 4], &[1]), hard(2)),
+        ("1 goes", write(1), sends(&[0], &[(4, 10)])),
+        ("1 lands and 2 goes", complete_write(1, 2), sends(&[1], &[(4, 20)])),
+        ("a cut, block 2 did not land", open(3).after_cut(&[]), granted()),
+        ("nothing is in flight", complete_write(2, 1), not_tried(14)),
+        ("3 on block 2", create(2, 2, &[30; 4], &[1, 2]), hard(3).following(0, &[])),
+        ("4 on block 1 after 3", create(1, 2, &[40; 4], &[3]), hard(4)),
+        ("3 goes, without 2", write(2), sends(&[0], &[(2, 0), (4, 30)])),
+        ("3 lands and 4 goes", complete_write(2, 1), sends(&[1], &[(2, 10), (4, 40)])),
+        ("a cut, block 1 landed", open(5).after_cut(&[1]), granted()),
+        ("5 on block 1", create(1, 8, &[50], &[4]), hard(5)),
+        ("5 goes over 1 and 4", write(1), sends(&[0], &[(2, 10), (4, 40), (2, 0), (1, 50)])),
+        ("the last one lands", complete_write(1, 1), completes(12).leaving(0, State::Free)),
+    ]
+}
+
+/// One in flight on block 1 and one that waits on block 2, with the same number: not sound.
+fn same_number() -> Table {
+    let mut table = Table { next: 9, ..Table::empty(Setting::Board, 1) };
+    let slot = |state, block| {
+        let befores = Slots::new();
+        Slot { state, number: 7, block, offset: 0, length: 4, befores }
+    };
+    table.slots[0] = slot(State::InFlightHard, 1);
+    table.slots[1] = slot(State::WaitingHard, 2);
+    table
+}
+
+fn joint_not_sound() -> Vec<Row> {
+    vec![
+        ("2", complete_write(1, 2), not_tried(2).leaving(0, State::InFlightHard)),
+        ("2, the same block", complete_write(1, 1), not_tried(2)),
+        ("2 before 3", complete_write(64, 2), not_tried(2)),
+        ("2, the image short", complete_write(1, 2).lending(Buffer::Image, 0), not_tried(2)),
+    ]
+}
+
 fn all() -> Vec<Case> {
     let case = |name, rows| Case { name, table: None, rows };
     let on = |name, table, rows| Case { name, table: Some(table), rows };
@@ -674,6 +871,13 @@ fn all() -> Vec<Case> {
         case("after a sleep", after_a_sleep()),
         case("after cuts", after_cuts()),
         on("an old number in a free slot", old_remains(), old_in_a_free_slot()),
+        case("P1 to P10 in joint calls", two_pages_in_joint_calls()),
+        case("a joint call, completing refused", joint_not_tried()),
+        case("a joint call, only the write refused", joint_write_refused()),
+        case("a joint call of the same block", joint_same_block()),
+        case("a completion that lets the write go", joint_helps_the_write()),
+        case("joint calls and cuts", joint_then_cuts()),
+        on("a joint call on a table that is not sound", same_number(), joint_not_sound()),
     ]
 }
 

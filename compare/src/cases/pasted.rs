@@ -6,7 +6,7 @@ use crate::judge::run::Order;
 use crate::model::bytes::{TABLE_BYTES, encoded};
 use crate::model::setting::Setting;
 use crate::model::table::{Slot, State, Table};
-use crate::orders::steps::{Buffer, ask, complete, count, create, open, write};
+use crate::orders::steps::{Buffer, ask, complete, complete_write, count, create, open, write};
 
 pub fn orders() -> Vec<Order> {
     vec![

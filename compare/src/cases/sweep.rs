@@ -8,7 +8,7 @@ use crate::model::bytes::encoded;
 use crate::model::rules::{Model, Right};
 use crate::model::setting::Setting;
 use crate::model::table::{KINDS, Kind, LAST_NUMBER, SLOTS, Slots, State, Table};
-use crate::orders::steps::{Step, ask, complete, count, create, write};
+use crate::orders::steps::{Step, ask, complete, complete_write, count, create, write};
 use crate::orders::tables::{BREAKS, full};
 
 /// Every table of the sweep, and whether it is sound.
@@ -78,6 +78,7 @@ fn call(turn: usize, table: &Table) -> Step {
         Kind::Write => write(block),
         Kind::Complete => complete(block),
         Kind::Ask => ask(table.first),
+        Kind::CompleteWrite => complete_write(block, (block + 1) % 64),
     }
 }
 

@@ -414,6 +414,158 @@ fn low_byte_of_room(slot: &mut Slot) {
     }
 }
 
+// ---- Complete and go on ----
+
+/// Declares a wrong joint call: a name, and what it does with table, image, undo area, block handed out, x and y.
+macro_rules! joint {
+    ($name:ident: |$t:ident, $i:ident, $u:ident, $h:ident, $x:ident, $y:ident| $does:expr; $($rule:tt)*) => {
+        struct $name;
+        impl Model for $name {
+            fn complete_write(&self, $t: &mut Table, $i: &[u8], $u: &[u8], $h: &mut [u8], $x: u32, $y: u32) -> Both { $does }
+            $($rule)*
+        }
+    };
+}
+
+/// Both answers, of a write that was tried.
+fn tried(first: Result<(), Refusal>, written: Result<Slots, Refusal>) -> Both {
+    let second = written.as_ref().map_or_else(|&refusal| Second::Refused(refusal), |_| Second::Granted);
+    Both { first, second, sent: written.unwrap_or_default() }
+}
+
+fn odd_sizes(table: &Table, image: &[u8], undo: &[u8], handed: &[u8]) -> bool {
+    image.len() != IMAGE_BYTES || undo.len() != undo_bytes(table.setting) || handed.len() != BLOCK_BYTES
+}
+
+joint!(WritesOnTheOld: |t, i, u, h, x, y| match Right.given_by_completing(t, x) {
+    Err(refusal) => Right.not_tried(refusal),
+    Ok(_) => {
+        let written = Right.write(t, i, u, h, y);
+        tried(Right.complete(t, x), written)
+    }
+};);
+joint!(WriteForgetsCompletion: |t, i, u, h, x, y| {
+    let mut old = t.clone();
+    let both = Right.complete_write(t, i, u, h, x, y);
+    if both.second == Second::Granted && Right.write(&mut old, i, u, &mut h.to_vec(), y).is_ok() { *t = old }
+    both
+};);
+joint!(SendsWhatWentBefore: |t, i, u, h, x, y| {
+    let went = Right.largest_that_may_go(t, y);
+    let both = Right.complete_write(t, i, u, h, x, y);
+    let stay = both.sent.difference(&went).filter(|_| x != y && !went.is_empty());
+    stay.for_each(|&slot| t.slots[slot].state = State::WaitingHard);
+    Both { sent: both.sent.iter().copied().filter(|slot| x == y || went.is_empty() || went.contains(slot)).collect(), ..both }
+};);
+joint!(TriesAnyhow: |t, i, u, h, x, y| {
+    let first = Right.complete(t, x);
+    tried(first, Right.write(t, i, u, h, y))
+}; fn writes_the_table(&self, _: &Both) -> bool { true });
+joint!(TriesInSecret: |t, i, u, h, x, y| {
+    let both = Right.complete_write(t, i, u, h, x, y);
+    if both.first.is_err() { let _ = Right.write(t, i, u, h, y); }
+    both
+}; fn writes_the_table(&self, _: &Both) -> bool { true });
+joint!(TriesWithoutTheTable: |t, i, u, h, x, y| {
+    let both = Right.complete_write(t, i, u, h, x, y);
+    if both.first.is_err() { let _ = Right.write(&mut t.clone(), i, u, h, y); }
+    both
+};);
+joint!(SaysWhatItWouldBe: |t, i, u, h, x, y| {
+    let both = Right.complete_write(t, i, u, h, x, y);
+    if both.first.is_ok() { both } else { Both { sent: Slots::new(), ..tried(both.first, Right.write(&mut t.clone(), i, u, &mut h.to_vec(), y)) } }
+};);
+joint!(CompletionUndone: |t, i, u, h, x, y| {
+    let old = t.clone();
+    let both = Right.complete_write(t, i, u, h, x, y);
+    if both.second != Second::Granted { *t = old }
+    both
+};);
+joint!(CompletionUnsaid: |t, i, u, h, x, y| {
+    let old = t.clone();
+    let both = Right.complete_write(t, i, u, h, x, y);
+    if let Second::Refused(refusal) = both.second { *t = old; Right.not_tried(refusal) } else { both }
+};);
+joint!(BlocksSwapped: |t, i, u, h, x, y| Right.complete_write(t, i, u, h, y, x););
+joint!(CompletesBoth: |t, i, u, h, x, y| {
+    let both = Right.complete_write(t, i, u, h, x, y);
+    if both.second == Second::Refused(Refusal::OneInFlight) { let _ = Right.complete(t, y); }
+    both
+};);
+joint!(NotTriedIsGranted: |t, i, u, h, x, y| {
+    let both = Right.complete_write(t, i, u, h, x, y);
+    if both.first.is_err() { Both { second: Second::Granted, ..both } } else { both }
+};);
+joint!(NotTriedIs14: |t, i, u, h, x, y| {
+    let both = Right.complete_write(t, i, u, h, x, y);
+    if both.first.is_err() { Both { second: Second::Refused(Refusal::NoneInFlight), ..both } } else { both }
+};);
+joint!(NotTriedIsTheFirst: |t, i, u, h, x, y| {
+    let both = Right.complete_write(t, i, u, h, x, y);
+    match both.first { Err(refusal) => Both { second: Second::Refused(refusal), ..both }, Ok(()) => both }
+};);
+joint!(RefusedIsNotTried: |t, i, u, h, x, y| {
+    let both = Right.complete_write(t, i, u, h, x, y);
+    if both.second == Second::Granted { both } else { Both { second: Second::NotTried, ..both } }
+};);
+joint!(BuffersFirst: |t, i, u, h, x, y| {
+    if odd_sizes(t, i, u, h) { Right.not_tried(Refusal::BufferSize) } else { Right.complete_write(t, i, u, h, x, y) }
+};);
+joint!(BuffersKeepFromCompleting: |t, i, u, h, x, y| {
+    let odd = odd_sizes(t, i, u, h);
+    let kept = t.clone();
+    let both = Right.complete_write(t, i, u, h, x, y);
+    if odd { *t = kept }
+    both
+};);
+joint!(BuffersSaidThoughNotTried: |t, i, u, h, x, y| {
+    let odd = odd_sizes(t, i, u, h);
+    let both = Right.complete_write(t, i, u, h, x, y);
+    if odd { Both { second: Second::Refused(Refusal::BufferSize), ..both } } else { both }
+};);
+joint!(YJudgedFirst: |t, i, u, h, x, y| {
+    if y > LAST_BLOCK && Right.sound(t) { Right.not_tried(Refusal::BlockAbove63) } else { Right.complete_write(t, i, u, h, x, y) }
+};);
+joint!(SetThoughRefused: |t, i, u, h, x, y| {
+    let both = Right.complete_write(t, i, u, h, x, y);
+    if matches!(both.second, Second::Refused(_)) { Both { sent: t.waiting(y), ..both } } else { both }
+};);
+joint!(SetThoughNotTried: |t, i, u, h, x, y| {
+    let both = Right.complete_write(t, i, u, h, x, y);
+    if both.first.is_err() { Both { sent: t.waiting(y), ..both } } else { both }
+};);
+joint!(HandedCleared: |t, i, u, h, x, y| {
+    let both = Right.complete_write(t, i, u, h, x, y);
+    if matches!(both.second, Second::Refused(_)) { h.fill(0) }
+    both
+};);
+joint!(HandedClearedNotTried: |t, i, u, h, x, y| {
+    let both = Right.complete_write(t, i, u, h, x, y);
+    if both.first.is_err() { h.fill(0) }
+    both
+};);
+joint!(HandedOutThoughHeld: |t, i, u, h, x, y| {
+    let both = Right.complete_write(t, i, u, h, x, y);
+    if both.second == Second::Refused(Refusal::NoneMayGo) { h.copy_from_slice(&i[BLOCK_BYTES * y as usize..][..BLOCK_BYTES]) }
+    both
+};);
+joint!(SameRefused: |t, i, u, h, x, y| {
+    if x == y && Right.given_by_completing(t, x).is_ok() { Right.not_tried(Refusal::NoneInFlight) } else { Right.complete_write(t, i, u, h, x, y) }
+};);
+joint!(SameInFlightStill: |t, i, u, h, x, y| {
+    if x != y { return Right.complete_write(t, i, u, h, x, y) }
+    match Right.complete(t, x) {
+        Err(refusal) => Right.not_tried(refusal),
+        Ok(()) => tried(Ok(()), Err(Refusal::OneInFlight)),
+    }
+};);
+joint!(AnswersSwapped: |t, i, u, h, x, y| {
+    let both = Right.complete_write(t, i, u, h, x, y);
+    match both.second { Second::Refused(refusal) => Both { first: Err(refusal), second: Second::Granted, ..both }, _ => both }
+}; fn writes_the_table(&self, _: &Both) -> bool { true });
+wrong!(RefusedYetTableWritten: fn writes_the_table(&self, _: &Both) -> bool { true });
+wrong!(TableWrittenIfSent: fn writes_the_table(&self, both: &Both) -> bool { both.second == Second::Granted });
+
 /// Reads each slot in another way, before it judges the table.
 struct Reads(fn(&mut Slot));
 
@@ -530,6 +682,7 @@ fn entries() -> Vec<Entry> {
     ];
     entries.extend(joining());
     entries.extend(before_the_opening());
+    entries.extend(going_on());
     for clause in CLAUSES {
         entries.push(entry(&format!("soundness without {clause:?}"), Forgets(clause), false));
     }
@@ -604,6 +757,41 @@ fn before_the_opening() -> Vec<Entry> {
         entry("ask below first is found in a free slot", OldWaitsInFreeSlot, false),
         entry("a number in use below first is sound", OldInUseIsSound, false),
         entry("open forgets its first number", OpenStartsAt1, false),
+    ]
+}
+
+/// A refusal too many breaks no cut, nor does a block that is handed out and not sent.
+fn going_on() -> Vec<Entry> {
+    vec![
+        entry("joint: the write on the table before", WritesOnTheOld, false),
+        entry("joint: a granted write loses the completion", WriteForgetsCompletion, true),
+        entry("joint: only what could go before goes", SendsWhatWentBefore, true),
+        entry("joint: tried though completing is refused", TriesAnyhow, true),
+        entry("joint: the same, and not tried said", TriesInSecret, true),
+        entry("joint: the same, but for the table", TriesWithoutTheTable, false),
+        entry("joint: not tried, said what it would be", SaysWhatItWouldBe, true),
+        entry("joint: write refused, completion undone", CompletionUndone, true),
+        entry("joint: the same, and said to be refused", CompletionUnsaid, false),
+        entry("joint: the two blocks swapped", BlocksSwapped, true),
+        entry("joint: y in flight is completed too", CompletesBoth, true),
+        entry("joint: not tried answered as 0", NotTriedIsGranted, true),
+        entry("joint: not tried answered as 14", NotTriedIs14, true),
+        entry("joint: not tried answered as the first", NotTriedIsTheFirst, true),
+        entry("joint: a refused write answered not tried", RefusedIsNotTried, true),
+        entry("joint: buffers judged before completing", BuffersFirst, false),
+        entry("joint: wrong buffers keep from completing", BuffersKeepFromCompleting, true),
+        entry("joint: 1 said though not tried", BuffersSaidThoughNotTried, true),
+        entry("joint: y above 63 refused at first", YJudgedFirst, false),
+        entry("joint: the set told though refused", SetThoughRefused, true),
+        entry("joint: the set told though not tried", SetThoughNotTried, true),
+        entry("joint: handed block cleared on refusal", HandedCleared, false),
+        entry("joint: handed block cleared, not tried", HandedClearedNotTried, false),
+        entry("joint: refused 13, the block handed out", HandedOutThoughHeld, false),
+        entry("joint: first refused, table written", RefusedYetTableWritten, false),
+        entry("joint: table written only if some went", TableWrittenIfSent, true),
+        entry("joint: x = y refused", SameRefused, false),
+        entry("joint: x = y, the write refused 11", SameInFlightStill, false),
+        entry("joint: a refused write is the first answer", AnswersSwapped, true),
     ]
 }
 
@@ -684,6 +872,7 @@ fn both(wrong: &Answer, right: &Answer) -> String {
         ("set", wrong.set, right.set),
         ("state", u64::from(wrong.state), u64::from(right.state)),
         ("count", u64::from(wrong.count), u64::from(right.count)),
+        ("second", u64::from(wrong.second), u64::from(right.second)),
     ];
     match fields.iter().find(|(_, wrong, right)| wrong != right) {
         Some((field, wrong, right)) => format!(", {field} {wrong} for {right}"),

@@ -18,6 +18,7 @@ pub fn answered(kind: Kind) -> &'static str {
         Kind::Complete => "complete answered",
         Kind::Ask => "ask answered",
         Kind::Count => "count answered",
+        Kind::CompleteWrite => "complete and write: completing answered",
     }
 }
 
@@ -30,6 +31,7 @@ pub fn refused_early(kind: Kind) -> &'static str {
         Kind::Complete => "complete refused so, a later test held too",
         Kind::Ask => "ask refused so, a later test held too",
         Kind::Count => "count refused so, a later test held too",
+        Kind::CompleteWrite => "complete and write: completing refused so, a later test held too",
     }
 }
 
@@ -59,6 +61,8 @@ fn wanted(setting: Setting) -> Vec<(&'static str, Vec<u32>)> {
         ("create: in slot", (0..SLOTS as u32).collect()),
         ("create: so many numbers named", (0..=MOST_NAMED as u32).collect()),
         ("ask: state", vec![1, 2, 3]),
+        ("complete and write: the write answered", vec![0, 1, 3, 11, 12, 13]),
+        ("complete and write: not tried, a write alone would be answered", vec![0, 1, 2, 3, 11, 12, 13]),
         ("unsound by one clause alone", (0..CLAUSES.len() as u32).collect()),
         ("unsound in this way", (0..BREAKS.len() as u32).collect()),
         ("open: the first history", vec![0, 15]),
@@ -200,6 +204,18 @@ const SINGLE: &[&str] = &[
     "complete: two or more commit",
     "complete: others of the block wait on",
     "complete: remains in free slots kept",
+    "complete and write: both granted, of two blocks",
+    "complete and write: both granted, of the same block",
+    "complete and write: granted since completed, 11 before",
+    "complete and write: granted since completed, 13 before",
+    "complete and write: more patches went since completed",
+    "complete and write: write granted, soft left behind",
+    "complete and write: the same block, completing refused",
+    "complete and write: the same block, write refused 12",
+    "complete and write: the same block, write refused 13",
+    "complete and write: write refused 13, held by another in flight",
+    "complete and write: write refused 13, held by what landed too",
+    "complete and write: completed the last patch",
     "count: 0",
     "count: more than 0",
     "count: more than 0, some in flight",
@@ -220,6 +236,7 @@ const SINGLE: &[&str] = &[
     "cut: a landed change names a landed one",
     "cut: a lower number landed after a higher one of its block",
     "cut: all committed, store equals working image",
+    "cut: between the two calls of a joint one",
     "life: opened at the old next",
     "life: opened above the old next",
     "life: opened below the old next",

@@ -15,7 +15,7 @@ use crate::judge::cover::Cover;
 use crate::judge::life::{Accepted, Past, carry};
 use crate::model::bytes::set_of;
 use crate::model::setting::Setting;
-use crate::model::table::{BLOCK_BYTES, SLOTS};
+use crate::model::table::{BLOCK_BYTES, NOT_TRIED, SLOTS};
 use crate::orders::steps::{Answer, Call, Lent};
 use std::collections::{BTreeMap, BTreeSet};
 
@@ -66,6 +66,7 @@ impl History {
     ) -> Result<(), String> {
         match call {
             Call::Open { .. } => Err(String::from("an opening begins a history, and is none of its calls")),
+            Call::CompleteWrite { .. } => Err(String::from("a joint call is noted as the two that it makes")),
             Call::Create { block, offset, data, named } => {
                 let (number, data, named) = (answer.number, data.clone(), named.clone());
                 let change = Accepted { number, block: *block, offset: *offset, data, named };
@@ -361,6 +362,18 @@ impl History {
     }
 }
 
+/// Of a joint call: the write was tried where completing was granted, and patches went where the write was.
+pub fn both_agree(answer: &Answer) -> Result<(), String> {
+    let Answer { refusal, second, set, .. } = *answer;
+    if (second == NOT_TRIED) != (refusal != 0) {
+        return Err(format!("completing was answered {refusal}, and the write after it {second}"));
+    }
+    if (set == 0) != (second != 0) {
+        return Err(format!("a write was answered {second}, with the slots {set:#x} sent"));
+    }
+    Ok(())
+}
+
 /// `start` is where the bytes stand in the store.
 fn same_bytes(store: &[u8], expected: &[u8], start: usize, blocks: &[u32]) -> Result<(), String> {
     if store == expected {
@@ -446,6 +459,18 @@ mod tests {
         let mut flying = board();
         assert_eq!(sent(&mut flying, 1, 1, &[0; BLOCK_BYTES]), Ok(()));
         assert!(given(&mut flying, 1, 1, 1).is_err(), "a number in flight");
+    }
+
+    #[test]
+    fn both_answers_of_a_joint_call_agree() {
+        let agree = |refusal, second, set| both_agree(&Answer { refusal, second, set, ..Answer::default() });
+        for (refusal, second, set) in [(0, 0, 1), (0, 13, 0), (0, 1, 0), (14, NOT_TRIED, 0)] {
+            assert_eq!(agree(refusal, second, set), Ok(()));
+        }
+        assert!(agree(14, 0, 0).is_err() && agree(14, 14, 0).is_err(), "tried though refused");
+        assert!(agree(14, NOT_TRIED, 1).is_err() && agree(0, 13, 1).is_err(), "sent though refused");
+        assert!(agree(0, NOT_TRIED, 0).is_err(), "not tried though granted");
+        assert!(agree(0, 0, 0).is_err(), "granted, and nothing sent");
     }
 
     #[test]

@@ -93,7 +93,7 @@ impl<'a> Driver<'a> {
         let calls = random.between(10, 260) as usize;
         let first = first_number(&mut random);
         let first = opening(&mut random, self.setting(), first);
-        let taste = Taste::of_seed(&mut random);
+        let taste = Taste::of_seed(&mut random).with_joint_calls(&mut random);
         let drain = random.percent(50);
         let opens_again = random.pick(&[0, 0, 2, 6]);
         let mut maker = Maker::new(random, taste);
@@ -228,7 +228,7 @@ fn next_first(random: &mut Random, next: u32) -> u32 {
 
 /// Likes the blocks of the table, and holds the numbers that stand in its free slots.
 fn single_maker(mut random: Random, table: &Table) -> Maker {
-    let mut taste = Taste::of_seed(&mut random);
+    let mut taste = Taste::of_seed(&mut random).with_joint_calls(&mut random);
     taste.blocks.truncate(2);
     taste.blocks.extend(table.patches().map(|(_, p)| p.block).filter(|&block| block < 64));
     taste.weights =

@@ -3,6 +3,7 @@
 pub mod cover;
 pub mod cut;
 pub mod drive;
+pub mod joint;
 pub mod life;
 pub mod run;
 pub mod shrink;

@@ -1,13 +1,13 @@
 //! Runs call orders on the library and on the model side by side and compares everything.
 
 use crate::judge::cover::Cover;
-use crate::judge::cut::History;
+use crate::judge::cut::{History, both_agree};
 use crate::judge::life::Past;
 use crate::judge::watch;
 use crate::library::calls::Library;
 use crate::model::bytes::{SLOT_BYTES, TABLE_BYTES, decode};
 use crate::model::setting::Setting;
-use crate::model::table::{BLOCK_BYTES, ROOM_BYTES, Refusal, Table};
+use crate::model::table::{BLOCK_BYTES, Kind, ROOM_BYTES, Refusal, Table};
 use crate::orders::steps::{Answer, Call, Lent, Step, play};
 
 /// An order of calls and what it starts from.
@@ -66,7 +66,8 @@ impl<'a> Run<'a> {
     /// Makes one call on both sides and compares all there is.
     pub fn step(&mut self, step: &Step, cover: &mut Cover) -> Result<Answer, Failure> {
         self.power_up(step, cover);
-        let before = if step.odd.is_empty() { None } else { Some(self.lent.clone()) };
+        let exact: Vec<_> =
+            step.odd.iter().map(|&(which, _)| (which, self.lent.buffer(which).clone())).collect();
         self.lent.resize(&step.odd);
         let bytes_before = self.lent.table.clone();
         let answer = play(self.pair.library, &mut self.lent, &step.call);
@@ -78,9 +79,10 @@ impl<'a> Run<'a> {
             what = what.or_else(|| difference(&answer, &wanted, &self.lent, &self.beside));
             other = Some(wanted);
         }
-        if let Some(before) = before {
-            self.beside = before.clone();
-            self.lent = before;
+        // What was lent in another size is as it was; the rest is what the call made of it.
+        for (which, bytes) in exact {
+            self.beside.buffer(which).clone_from(&bytes);
+            *self.lent.buffer(which) = bytes;
         }
         if what.is_none() && other.is_some() {
             let seen = self.table.as_ref().filter(|_| bytes_before.len() == TABLE_BYTES);
@@ -126,8 +128,8 @@ impl<'a> Run<'a> {
                 cover.add(again, answer.refusal);
                 self.begin(step, if answer.refusal == 0 { first } else { 1 }, cover)?;
             }
-        } else if let (0, Some(history)) = (answer.refusal, &mut self.history) {
-            history.record(&step.call, answer, &self.lent.handed, cover)?;
+        } else {
+            self.note(step, answer, cover)?;
         }
         match &self.history {
             None => Ok(()),
@@ -136,6 +138,24 @@ impl<'a> Run<'a> {
                 history.cut(cover)
             }
         }
+    }
+
+    /// Notes the granted calls that were made. Between the two of a joint one the power may go as well.
+    fn note(&mut self, step: &Step, answer: &Answer, cover: &mut Cover) -> Result<(), String> {
+        let Some(history) = &mut self.history else { return Ok(()) };
+        if step.kind() == Kind::CompleteWrite {
+            both_agree(answer)?;
+        }
+        for (place, (made, answer)) in step.made(answer).into_iter().enumerate() {
+            if place > 0 {
+                cover.add("cut: between the two calls of a joint one", 0);
+                history.cut(cover)?;
+            }
+            if answer.refusal == 0 {
+                history.record(&made.call, &answer, &self.lent.handed, cover)?;
+            }
+        }
+        Ok(())
     }
 
     /// Begins a history. After a cut, or with all committed, the life of the store goes on; on an image that is not the store's

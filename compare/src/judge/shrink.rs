@@ -4,7 +4,7 @@ use crate::judge::cover::Cover;
 use crate::judge::run::{Failure, Order, Pair, Run, replay};
 use crate::model::bytes::{SLOT_BYTES, TABLE_BYTES, decode, encoded};
 use crate::model::setting::Setting;
-use crate::model::table::{SLOTS, Slot, Table};
+use crate::model::table::{NOT_TRIED, SLOTS, Slot, Table};
 use crate::orders::steps::{Answer, Call, Step};
 
 /// Leaves out calls, names, slots of the table and the filling while the order still fails.
@@ -171,6 +171,7 @@ pub fn line(step: &Step) -> String {
         Call::Complete { block } => format!("complete({block})"),
         Call::Ask { number } => format!("ask({number})"),
         Call::Count { block } => format!("count({block})"),
+        Call::CompleteWrite { x, y } => format!("complete_write({x}, {y})"),
     };
     for (buffer, size) in &step.odd {
         line += &format!(".lending(Buffer::{buffer:?}, {size})");
@@ -191,6 +192,12 @@ fn list<T: PartialEq + std::fmt::Debug>(values: &[T]) -> String {
 }
 
 pub fn said(answer: &Answer) -> String {
-    let Answer { refusal, number, hold, set, state, count } = answer;
-    format!("refusal {refusal}, number {number}, hold {hold}, set {set:#x}, state {state}, count {count}")
+    let Answer { refusal, number, hold, set, state, count, second } = answer;
+    let second = match *second {
+        NOT_TRIED => String::from("not tried"),
+        second => second.to_string(),
+    };
+    format!(
+        "refusal {refusal}, number {number}, hold {hold}, set {set:#x}, state {state}, count {count}, second {second}"
+    )
 }

@@ -1,6 +1,7 @@
 //! Tells the coverage what a call reached, from the table before it and its answer.
 
 use crate::judge::cover::{Cover, answered, refused_early};
+use crate::judge::joint;
 use crate::model::bytes::{SLOT_BYTES, TABLE_BYTES, set_of};
 use crate::model::rules::{Model, Right};
 use crate::model::setting::Setting;
@@ -18,6 +19,13 @@ pub fn see(
     answer: &Answer,
 ) {
     cover.add(answered(step.kind()), answer.refusal);
+    if let Call::CompleteWrite { x, y } = step.call {
+        joint::see(cover, table, step, (x, y), answer);
+        let given = table.and_then(|table| Right.given_by_completing(table, x).ok());
+        for ((made, answer), table) in step.made(answer).iter().zip([table, given.as_ref()]) {
+            see(cover, setting, table, lent, made, answer);
+        }
+    }
     for &(buffer, size) in &step.odd {
         see_odd(cover, step.kind(), buffer, size < exact_size(setting, buffer));
     }
@@ -31,7 +39,7 @@ pub fn see(
         return;
     }
     match &step.call {
-        Call::Open { .. } => {}
+        Call::Open { .. } | Call::CompleteWrite { .. } => {}
         Call::Create { block, offset, data, named } => {
             let change = Change { block: *block, offset: *offset, data, named };
             see_create(cover, table, &change, answer);
@@ -346,9 +354,10 @@ fn see_refused(cover: &mut Cover, table: &Table, step: &Step, refusal: u32) {
         Call::Create { block, offset, data, named } => {
             Asked { block: *block, offset: *offset, length: data.len(), numbers: named, ..Asked::default() }
         }
-        Call::Write { block } | Call::Complete { block } | Call::Count { block } => {
-            Asked { block: *block, ..Asked::default() }
-        }
+        Call::Write { block }
+        | Call::Complete { block }
+        | Call::Count { block }
+        | Call::CompleteWrite { x: block, .. } => Asked { block: *block, ..Asked::default() },
         Call::Ask { number: n } | Call::Open { first: n } => {
             number = [*n];
             Asked { numbers: &number, ..Asked::default() }

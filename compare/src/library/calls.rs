@@ -1,7 +1,7 @@
-//! The six calls and the writer over plain buffers. Each answers a refusal number (0 granted); what else it
+//! The seven calls and the writer over plain buffers. Each answers a refusal number (0 granted); what else it
 //! answers goes through the numbers lent last, which every call writes.
 
-use crate::model::record::Record;
+use crate::model::record::Recorded;
 use crate::model::setting::Setting;
 
 #[allow(clippy::too_many_arguments)]
@@ -40,13 +40,26 @@ pub trait Library {
 
     fn complete(&self, table: &mut [u8], block: u32) -> u32;
 
+    /// Completes x, and answers that; then writes y. second: the write's answer, or that it was not tried.
+    fn complete_write(
+        &self,
+        table: &mut [u8],
+        image: &[u8],
+        undo: &[u8],
+        handed: &mut [u8],
+        x: u32,
+        y: u32,
+        second: &mut u32,
+        set: &mut u64,
+    ) -> u32;
+
     /// state: 0 no word, 1 waiting, 2 in flight, 3 committed.
     fn ask(&self, table: &[u8], asked: u32, state: &mut u32) -> u32;
 
     fn count(&self, table: &[u8], block: u32, count: &mut u32) -> u32;
 
-    /// Writes a record into the buffer's first bytes. length: the record's.
-    fn record(&self, buffer: &mut [u8], record: &Record, length: &mut u32) -> u32;
+    /// Writes a record, or those of a joint call, into the buffer's first bytes. length: how many bytes that are.
+    fn record(&self, buffer: &mut [u8], recorded: &Recorded, length: &mut u32) -> u32;
 
     /// What the last call did to bytes that were not lent to be written, where that is watched.
     fn harm(&self) -> Option<&'static str> {

@@ -6,7 +6,7 @@
 
 use super::board::raw::*;
 use crate::library::calls::Library;
-use crate::model::record::Record;
+use crate::model::record::{Record, Recorded};
 use std::cell::{Cell, RefCell};
 
 /// Bytes watched before and after a buffer.
@@ -170,6 +170,39 @@ impl Library for Linked {
         refusal
     }
 
+    fn complete_write(
+        &self,
+        table: &mut [u8],
+        image: &[u8],
+        undo: &[u8],
+        handed: &mut [u8],
+        x: u32,
+        y: u32,
+        second: &mut u32,
+        set: &mut u64,
+    ) -> u32 {
+        let places = &mut *self.places.borrow_mut();
+        let refusal = unsafe {
+            board_complete_write(
+                places.table.place(table, 1),
+                table.len(),
+                places.image.place(image, 3),
+                image.len(),
+                places.undo.place(undo, 5),
+                undo.len(),
+                places.handed.place(handed, 7),
+                handed.len(),
+                x,
+                y,
+                second,
+                set,
+            )
+        };
+        let Places { table: t, image: i, undo: u, handed: h, .. } = places;
+        self.settle(&mut [(t, table), (h, handed)], &[(i, image), (u, undo)]);
+        refusal
+    }
+
     fn ask(&self, table: &[u8], asked: u32, state: &mut u32) -> u32 {
         let Places { table: place, .. } = &mut *self.places.borrow_mut();
         let refusal = unsafe { board_ask(place.place(table, 1), table.len(), asked, state) };
@@ -184,13 +217,13 @@ impl Library for Linked {
         refusal
     }
 
-    fn record(&self, buffer: &mut [u8], record: &Record, length: &mut u32) -> u32 {
+    fn record(&self, buffer: &mut [u8], recorded: &Recorded, length: &mut u32) -> u32 {
         let Places { record: place, data: d, named: n, .. } = &mut *self.places.borrow_mut();
         let (at, len) = (place.place(buffer, 1), buffer.len());
         let (mut data, mut names) = (&[][..], Vec::new());
-        let refusal = match record {
-            Record::Open { first } => unsafe { board_record_open(at, len, *first, length) },
-            Record::Create { block, offset, named, data: given } => {
+        let refusal = match recorded {
+            Recorded::Call(Record::Open { first }) => unsafe { board_record_open(at, len, *first, length) },
+            Recorded::Call(Record::Create { block, offset, named, data: given }) => {
                 (data, names) = (given, bytes_of(named));
                 let (bytes, numbers) = (d.place(data, 7), n.place(&names, 4).cast::<u32>());
                 let (bytes_len, many) = (data.len(), named.len());
@@ -198,12 +231,17 @@ impl Library for Linked {
                     board_record_create(at, len, *block, *offset, bytes, bytes_len, numbers, many, length)
                 }
             }
-            Record::Write { block } => unsafe { board_record_write(at, len, *block, length) },
-            Record::Complete { block } => unsafe { board_record_complete(at, len, *block, length) },
-            Record::Cut { landed } => unsafe { board_record_cut(at, len, *landed, length) },
+            Recorded::Call(Record::Write { block }) => unsafe { board_record_write(at, len, *block, length) },
+            Recorded::Call(Record::Complete { block }) => unsafe {
+                board_record_complete(at, len, *block, length)
+            },
+            Recorded::Call(Record::Cut { landed }) => unsafe { board_record_cut(at, len, *landed, length) },
+            Recorded::CompleteWrite { x, y, first } => unsafe {
+                board_record_complete_write(at, len, *x, *y, *first, length)
+            },
         };
-        let read: &[(&Lent, &[u8])] =
-            if matches!(record, Record::Create { .. }) { &[(d, data), (n, &names)] } else { &[] };
+        let change = matches!(recorded, Recorded::Call(Record::Create { .. }));
+        let read: &[(&Lent, &[u8])] = if change { &[(d, data), (n, &names)] } else { &[] };
         self.settle(&mut [(place, buffer)], read);
         refusal
     }

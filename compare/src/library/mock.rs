@@ -3,7 +3,7 @@
 
 use crate::library::calls::Library;
 use crate::model::bytes::{TABLE_BYTES, decode, encode, mask};
-use crate::model::record::{HEAD_BYTES, LONGEST_VALUE, Record};
+use crate::model::record::{HEAD_BYTES, LONGEST_VALUE, Recorded};
 use crate::model::replay::BAD;
 use crate::model::rules::Model;
 use crate::model::setting::Setting;
@@ -87,6 +87,27 @@ impl<M: Model> Library for Mock<M> {
         }
     }
 
+    fn complete_write(
+        &self,
+        table: &mut [u8],
+        image: &[u8],
+        undo: &[u8],
+        handed: &mut [u8],
+        x: u32,
+        y: u32,
+        second: &mut u32,
+        set: &mut u64,
+    ) -> u32 {
+        (*second, *set) = (NOT_TRIED, 0);
+        let Some(mut taken) = decode(self.0.setting(), table) else { return NotSound.number() };
+        let both = self.0.complete_write(&mut taken, image, undo, handed, x, y);
+        (*second, *set) = (both.second.number(), mask(&both.sent));
+        if self.0.writes_the_table(&both) {
+            encode(&taken, table);
+        }
+        both.first.map_or_else(Refusal::number, |()| 0)
+    }
+
     fn ask(&self, table: &[u8], asked: u32, state: &mut u32) -> u32 {
         *state = 0;
         let Some(taken) = decode(self.0.setting(), table) else { return NotSound.number() };
@@ -111,12 +132,12 @@ impl<M: Model> Library for Mock<M> {
         }
     }
 
-    fn record(&self, buffer: &mut [u8], record: &Record, length: &mut u32) -> u32 {
+    fn record(&self, buffer: &mut [u8], recorded: &Recorded, length: &mut u32) -> u32 {
         *length = 0;
         if buffer.len() != HEAD_BYTES + LONGEST_VALUE {
             return Refusal::BufferSize.number();
         }
-        let Some(bytes) = record.bytes() else { return BAD };
+        let Some(bytes) = recorded.bytes() else { return BAD };
         buffer[..bytes.len()].copy_from_slice(&bytes);
         *length = bytes.len() as u32;
         0

@@ -1,4 +1,4 @@
-//! What is under test: the six calls over plain buffers, and the ways to them.
+//! What is under test: the seven calls over plain buffers, and the ways to them.
 
 #[cfg(linked)]
 #[allow(unsafe_code, dead_code)]

@@ -2,13 +2,15 @@
 //! Works on any processor that can run the program, under an emulator or not.
 
 use crate::library::calls::Library;
-use crate::model::record::Record;
+use crate::model::record::{Record, Recorded};
 use crate::model::table::Kind;
 use std::cell::{Cell, RefCell};
 use std::io::{BufReader, BufWriter, Read, Result, Write};
 use std::process::{ChildStdin, ChildStdout, Command, Stdio};
 
 const BUFFERS: usize = 4;
+/// Sent with every call; one that has fewer sends 0 for the rest.
+const NUMBERS: usize = 3;
 const NOT_LENT: u32 = u32::MAX;
 
 /// How a buffer is lent to a call.
@@ -20,19 +22,22 @@ enum Lend<'a> {
 
 use Lend::{No, ToRead, ToWrite};
 
-/// What is asked for: a call, or the record with a tag.
+/// What is asked for: a call, the record with a tag, or the records of a joint call.
 #[derive(Clone, Copy, Debug)]
 enum Asked {
     Call(Kind),
     Record(u8),
+    Records,
 }
 
 impl Asked {
     /// As serve.c numbers them.
     fn kind(self) -> u32 {
         match self {
+            Asked::Call(Kind::CompleteWrite) => 11,
             Asked::Call(kind) => kind as u32,
             Asked::Record(tag) => 5 + u32::from(tag),
+            Asked::Records => 12,
         }
     }
 }
@@ -45,6 +50,7 @@ struct Answer {
     set: u64,
     state: u32,
     count: u32,
+    second: u32,
     harm: Option<&'static str>,
     took: u32,
 }
@@ -82,7 +88,7 @@ impl Pipe {
     fn call(
         &self,
         asked: Asked,
-        numbers: [u32; 2],
+        numbers: &[u32],
         lent: [Lend; BUFFERS],
         data: &[u8],
         named: &[u32],
@@ -107,13 +113,14 @@ impl Server {
     fn ask(
         &mut self,
         asked: Asked,
-        numbers: [u32; 2],
+        numbers: &[u32],
         lent: &[Lend; BUFFERS],
         data: &[u8],
         named: &[u32],
     ) -> Result<()> {
-        for number in [asked.kind(), numbers[0], numbers[1]] {
-            self.put(number)?;
+        self.put(asked.kind())?;
+        for place in 0..NUMBERS {
+            self.put(numbers.get(place).copied().unwrap_or(0))?;
         }
         for (which, lend) in lent.iter().enumerate() {
             match lend {
@@ -145,11 +152,11 @@ impl Server {
     }
 
     fn answer(&mut self, mut lent: [Lend; BUFFERS]) -> Result<Answer> {
-        let mut numbers = [0; 7];
+        let mut numbers = [0; 8];
         for number in &mut numbers {
             *number = self.get()?;
         }
-        let [refusal, number, hold, low, high, state, count] = numbers;
+        let [refusal, number, hold, low, high, state, count, second] = numbers;
         let set = u64::from(high) << 32 | u64::from(low);
         let mut harm = None;
         for (kept, lend) in self.kept.iter_mut().zip(&mut lent) {
@@ -167,7 +174,7 @@ impl Server {
             harm = Some("a byte beside a buffer was written");
         }
         let took = self.get()?;
-        Ok(Answer { refusal, number, hold, set, state, count, harm, took })
+        Ok(Answer { refusal, number, hold, set, state, count, second, harm, took })
     }
 
     fn put(&mut self, number: u32) -> Result<()> {
@@ -198,7 +205,7 @@ fn changed_part(old: &[u8], new: &[u8]) -> (usize, usize) {
 
 impl Library for Pipe {
     fn open(&self, table: &mut [u8], first: u32) -> u32 {
-        self.call(Asked::Call(Kind::Open), [first, 0], [ToWrite(table), No, No, No], &[], &[]).refusal
+        self.call(Asked::Call(Kind::Open), &[first], [ToWrite(table), No, No, No], &[], &[]).refusal
     }
 
     fn create(
@@ -214,7 +221,7 @@ impl Library for Pipe {
         hold: &mut u32,
     ) -> u32 {
         let lent = [ToWrite(table), ToWrite(image), ToWrite(undo), No];
-        let answer = self.call(Asked::Call(Kind::Create), [block, offset], lent, data, named);
+        let answer = self.call(Asked::Call(Kind::Create), &[block, offset], lent, data, named);
         (*number, *hold) = (answer.number, answer.hold);
         answer.refusal
     }
@@ -229,41 +236,70 @@ impl Library for Pipe {
         set: &mut u64,
     ) -> u32 {
         let lent = [ToWrite(table), ToRead(image), ToRead(undo), ToWrite(handed)];
-        let answer = self.call(Asked::Call(Kind::Write), [block, 0], lent, &[], &[]);
+        let answer = self.call(Asked::Call(Kind::Write), &[block], lent, &[], &[]);
         *set = answer.set;
         answer.refusal
     }
 
     fn complete(&self, table: &mut [u8], block: u32) -> u32 {
-        self.call(Asked::Call(Kind::Complete), [block, 0], [ToWrite(table), No, No, No], &[], &[]).refusal
+        self.call(Asked::Call(Kind::Complete), &[block], [ToWrite(table), No, No, No], &[], &[]).refusal
+    }
+
+    fn complete_write(
+        &self,
+        table: &mut [u8],
+        image: &[u8],
+        undo: &[u8],
+        handed: &mut [u8],
+        x: u32,
+        y: u32,
+        second: &mut u32,
+        set: &mut u64,
+    ) -> u32 {
+        let lent = [ToWrite(table), ToRead(image), ToRead(undo), ToWrite(handed)];
+        let answer = self.call(Asked::Call(Kind::CompleteWrite), &[x, y], lent, &[], &[]);
+        (*second, *set) = (answer.second, answer.set);
+        answer.refusal
     }
 
     fn ask(&self, table: &[u8], asked: u32, state: &mut u32) -> u32 {
-        let answer = self.call(Asked::Call(Kind::Ask), [asked, 0], [ToRead(table), No, No, No], &[], &[]);
+        let answer = self.call(Asked::Call(Kind::Ask), &[asked], [ToRead(table), No, No, No], &[], &[]);
         *state = answer.state;
         answer.refusal
     }
 
     fn count(&self, table: &[u8], block: u32, count: &mut u32) -> u32 {
-        let answer = self.call(Asked::Call(Kind::Count), [block, 0], [ToRead(table), No, No, No], &[], &[]);
+        let answer = self.call(Asked::Call(Kind::Count), &[block], [ToRead(table), No, No, No], &[], &[]);
         *count = answer.count;
         answer.refusal
     }
 
-    fn record(&self, buffer: &mut [u8], record: &Record, length: &mut u32) -> u32 {
-        let (numbers, data, named) = match record {
-            Record::Open { first } => ([*first, 0], &[][..], &[][..]),
-            Record::Create { block, offset, named, data } => ([*block, *offset], &data[..], &named[..]),
-            Record::Write { block } | Record::Complete { block } => ([*block, 0], &[][..], &[][..]),
-            Record::Cut { landed } => ([(landed >> 32) as u32, *landed as u32], &[][..], &[][..]),
-        };
+    fn record(&self, buffer: &mut [u8], recorded: &Recorded, length: &mut u32) -> u32 {
         let lent = [No, No, No, ToWrite(buffer)];
-        let answer = self.call(Asked::Record(record.tag()), numbers, lent, data, named);
+        let answer = match recorded {
+            Recorded::CompleteWrite { x, y, first } => {
+                self.call(Asked::Records, &[*x, *y, *first], lent, &[], &[])
+            }
+            Recorded::Call(record) => {
+                let (numbers, data, named) = parts(record);
+                self.call(Asked::Record(record.tag()), &numbers, lent, data, named)
+            }
+        };
         *length = answer.count;
         answer.refusal
     }
 
     fn harm(&self) -> Option<&'static str> {
         self.harm.take()
+    }
+}
+
+/// What is sent of a call to be recorded: its numbers, its data and its names.
+fn parts(record: &Record) -> ([u32; 2], &[u8], &[u32]) {
+    match record {
+        Record::Open { first } => ([*first, 0], &[], &[]),
+        Record::Create { block, offset, named, data } => ([*block, *offset], data, named),
+        Record::Write { block } | Record::Complete { block } => ([*block, 0], &[], &[]),
+        Record::Cut { landed } => ([(landed >> 32) as u32, *landed as u32], &[], &[]),
     }
 }

@@ -1,5 +1,5 @@
 //! The records of a trace, by request c: a tag, the value's length in two bytes with the high byte first, and the value. Here they
-//! are written; replay.rs reads them.
+//! are written; replay.rs reads them. A joint call has none of its own: by request d the calls that it made are recorded.
 
 /// No value is longer.
 pub const LONGEST_VALUE: usize = 1_200;
@@ -61,6 +61,37 @@ impl Record {
             Record::Write { block } | Record::Complete { block } => Some(vec![byte(*block)?]),
             Record::Cut { landed } => Some(landed.to_be_bytes().to_vec()),
         }
+    }
+}
+
+/// What the writer is asked for.
+#[derive(Clone, PartialEq, Eq, Debug)]
+pub enum Recorded {
+    Call(Record),
+    /// A joint call, with its first answer.
+    CompleteWrite {
+        x: u32,
+        y: u32,
+        first: u32,
+    },
+}
+
+impl Recorded {
+    /// The calls that were made. A write was, where completing was not refused.
+    pub fn made(&self) -> Vec<Record> {
+        match self {
+            Recorded::Call(record) => vec![record.clone()],
+            Recorded::CompleteWrite { x, y, first } => {
+                let write = if *first == 0 { Some(Record::Write { block: *y }) } else { None };
+                [Record::Complete { block: *x }].into_iter().chain(write).collect()
+            }
+        }
+    }
+
+    /// The bytes of the calls made, end to end; none where one of them fits no record.
+    pub fn bytes(&self) -> Option<Vec<u8>> {
+        let records: Option<Vec<Vec<u8>>> = self.made().iter().map(Record::bytes).collect();
+        Some(records?.concat())
     }
 }
 

@@ -1,4 +1,4 @@
-//! The model: the rules of document 01 and of requests a and b, said once more and in another way than the library.
+//! The model: the rules of document 01 and of requests a, b and d, said once more and in another way than the library.
 //!
 //! Every rule is a method of the trait `Model` with its body here. `Right` takes them all as they
 //! are. A wrong model (wrong.rs) replaces one of them and keeps the rest.
@@ -83,7 +83,8 @@ pub trait Model {
                 NoFreeRoom,
             ],
             Kind::Write => vec![BufferSize, NotSound, BlockAbove63, OneInFlight, NoneWaits, NoneMayGo],
-            Kind::Complete => vec![NotSound, BlockAbove63, NoneInFlight],
+            // Of a joint call the first answer: the write tests as a write does.
+            Kind::Complete | Kind::CompleteWrite => vec![NotSound, BlockAbove63, NoneInFlight],
             Kind::Ask => vec![NotSound, NeverIssued],
             Kind::Count => vec![NotSound, BlockAbove63],
         }
@@ -394,6 +395,43 @@ pub trait Model {
 
     fn forget_committed(&self, patch: &mut Slot, committed: &Slots) {
         patch.befores.retain(|before| !committed.contains(before));
+    }
+
+    // ---- Complete and go on ----
+
+    /// Completing x gives a table or a refusal. On that table y is written, and what the write leaves is the table from then on; it
+    /// leaves what it found where it is refused. With no table given nothing is written, and nothing was tried.
+    fn complete_write(
+        &self,
+        table: &mut Table,
+        image: &[u8],
+        undo: &[u8],
+        handed: &mut [u8],
+        x: u32,
+        y: u32,
+    ) -> Both {
+        let mut given = match self.given_by_completing(table, x) {
+            Ok(given) => given,
+            Err(refusal) => return self.not_tried(refusal),
+        };
+        let written = self.write(&mut given, image, undo, handed, y);
+        *table = given;
+        let second = written.as_ref().map_or_else(|&refusal| Second::Refused(refusal), |_| Second::Granted);
+        Both { first: Ok(()), second, sent: written.unwrap_or_default() }
+    }
+
+    fn given_by_completing(&self, table: &Table, x: u32) -> Result<Table, Refusal> {
+        let mut given = table.clone();
+        self.complete(&mut given, x).map(|()| given)
+    }
+
+    fn not_tried(&self, refusal: Refusal) -> Both {
+        Both { first: Err(refusal), second: Second::NotTried, sent: Slots::new() }
+    }
+
+    /// Whether the table's bytes are those of the table now, or stay as they were.
+    fn writes_the_table(&self, both: &Both) -> bool {
+        both.first.is_ok()
     }
 
     // ---- Ask and count ----

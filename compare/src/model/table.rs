@@ -83,6 +83,35 @@ pub struct Change<'a> {
     pub named: &'a [u32],
 }
 
+/// What the write of a joint call came to.
+#[derive(Clone, Copy, PartialEq, Eq, Debug)]
+pub enum Second {
+    Granted,
+    Refused(Refusal),
+    /// Completing was refused.
+    NotTried,
+}
+
+/// Stands where the number of a refusal would; it is none's.
+pub const NOT_TRIED: u32 = u32::MAX;
+
+impl Second {
+    pub fn number(self) -> u32 {
+        match self {
+            Second::Granted => 0,
+            Second::Refused(refusal) => refusal.number(),
+            Second::NotTried => NOT_TRIED,
+        }
+    }
+}
+
+/// What a joint call answers: of completing, and of writing with the patches sent.
+pub struct Both {
+    pub first: Result<(), Refusal>,
+    pub second: Second,
+    pub sent: Slots,
+}
+
 /// What ask says of a number.
 #[derive(Clone, Copy, PartialEq, Eq, Debug)]
 pub enum Standing {
@@ -99,9 +128,11 @@ pub enum Kind {
     Complete,
     Ask,
     Count,
+    CompleteWrite,
 }
 
-pub const KINDS: [Kind; 6] = [Kind::Open, Kind::Create, Kind::Write, Kind::Complete, Kind::Ask, Kind::Count];
+pub const KINDS: [Kind; 7] =
+    [Kind::Open, Kind::Create, Kind::Write, Kind::Complete, Kind::Ask, Kind::Count, Kind::CompleteWrite];
 
 /// All that the refusal tests look at besides the table. A call leaves out what it has not.
 #[derive(Default)]

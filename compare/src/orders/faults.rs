@@ -35,6 +35,15 @@ fn spoil_once(random: &mut Random, table: &Table, mut step: Step) -> Step {
                 );
             }
         }
+        Call::CompleteWrite { x, y } => match random.below(6) {
+            0 => *x = wrong_block(random),
+            1 | 2 => *y = wrong_block(random),
+            3 => *x = *y,
+            _ => {
+                let buffers = [Buffer::Image, Buffer::Undo, Buffer::Handed, Buffer::Table];
+                return lend_oddly(random, table, step, &buffers);
+            }
+        },
         Call::Complete { block } | Call::Count { block } => {
             if random.percent(60) {
                 *block = wrong_block(random);

@@ -4,7 +4,7 @@
 use crate::model::table::{BLOCK_BYTES, Kind, LAST_BLOCK, LAST_NUMBER, LONGEST_DATA, MOST_NAMED, Table};
 use crate::orders::faults;
 use crate::orders::random::Random;
-use crate::orders::steps::{Step, ask, complete, count, create, open, write};
+use crate::orders::steps::{Step, ask, complete, complete_write, count, create, open, write};
 
 /// The calls that an order chooses among. Openings come from elsewhere.
 const KINDS_CHOSEN: [Kind; 5] = [Kind::Create, Kind::Write, Kind::Complete, Kind::Ask, Kind::Count];
@@ -24,6 +24,8 @@ pub struct Taste {
     pub chain: bool,
     /// How often each of the calls in `KINDS_CHOSEN` comes.
     pub weights: [u32; KINDS_CHOSEN.len()],
+    /// Percent of the completions that go on with a write in the same call.
+    pub joint: u32,
     /// Percent of the calls that have some fault.
     pub faults: u32,
 }
@@ -39,13 +41,19 @@ fn some_blocks(random: &mut Random, count: usize) -> Vec<u32> {
 }
 
 impl Taste {
+    /// The same with joint calls, at times many of them.
+    pub fn with_joint_calls(self, random: &mut Random) -> Taste {
+        Taste { joint: random.pick(&[0, 30, 60, 100]), ..self }
+    }
+
+    /// One that makes no joint calls.
     pub fn of_seed(random: &mut Random) -> Taste {
         let few = 2 + random.below(4);
         let blocks = some_blocks(random, few);
         let (span, longest, faults) = (64, 12, 6);
-        let (fresh, naming, chain) = (0, 50, false);
+        let (fresh, naming, chain, joint) = (0, 50, false, 0);
         let mixed =
-            Taste { blocks, fresh, span, longest, naming, chain, weights: [45, 22, 22, 6, 5], faults };
+            Taste { blocks, fresh, span, longest, naming, chain, weights: [45, 22, 22, 6, 5], joint, faults };
         let all: Vec<u32> = (0..=LAST_BLOCK).collect();
         match random.below(9) {
             0 => Taste { naming: 0, weights: [90, 3, 3, 2, 2], ..mixed },
@@ -126,7 +134,7 @@ impl Maker {
             Kind::Create => self.create(table),
             Kind::Write => self.write(table),
             Kind::Complete if none_in_flight(table) && self.random.percent(70) => self.write(table),
-            Kind::Complete => self.complete(table),
+            Kind::Complete | Kind::CompleteWrite => self.complete(table),
             Kind::Ask => ask(self.number(table)),
             Kind::Count => count(self.random.pick(&self.taste.blocks)),
         }
@@ -226,7 +234,31 @@ impl Maker {
 
     /// Mostly a block with patches in flight.
     fn complete(&mut self, table: &Table) -> Step {
-        complete(self.block_where(&|b| !table.in_flight(*b).is_empty(), 85))
+        let x = self.block_where(&|b| !table.in_flight(*b).is_empty(), 85);
+        self.completion(table, x)
+    }
+
+    /// A completion; at times it goes on with a write in the same call.
+    fn completion(&mut self, table: &Table, x: u32) -> Step {
+        if self.taste.joint > 0 && self.random.percent(self.taste.joint) {
+            complete_write(x, self.next_block(table, x))
+        } else {
+            complete(x)
+        }
+    }
+
+    /// What is written after x has landed: x itself, a block in flight, one that follows what landed, or, mostly, one that could go.
+    fn next_block(&mut self, table: &Table, x: u32) -> u32 {
+        let landed = table.in_flight(x);
+        let follows =
+            |b: &u32| table.waiting(*b).iter().any(|&i| !table.slots[i].befores.is_disjoint(&landed));
+        let ready = |b: &u32| *b != x && !table.waiting(*b).is_empty() && table.in_flight(*b).is_empty();
+        match self.random.below(10) {
+            0 | 1 => x,
+            2 => self.block_where(&|b| *b != x && !table.in_flight(*b).is_empty(), 100),
+            3..6 => self.block_where(&follows, 100),
+            _ => self.block_where(&ready, 90),
+        }
     }
 
     fn block_where(&mut self, test: &dyn Fn(&u32) -> bool, percent: u32) -> u32 {
@@ -253,6 +285,10 @@ impl Maker {
         if send {
             return Some(write(self.random.pick(&waiting)));
         }
-        if in_flight.is_empty() { None } else { Some(complete(self.random.pick(&in_flight))) }
+        if in_flight.is_empty() {
+            return None;
+        }
+        let x = self.random.pick(&in_flight);
+        Some(self.completion(table, x))
     }
 }

@@ -14,6 +14,7 @@ pub enum Call {
     Complete { block: u32 },
     Ask { number: u32 },
     Count { block: u32 },
+    CompleteWrite { x: u32, y: u32 },
 }
 
 #[derive(Clone, Copy, PartialEq, Eq, Debug)]
@@ -61,6 +62,10 @@ pub fn count(block: u32) -> Step {
     step(Call::Count { block })
 }
 
+pub fn complete_write(x: u32, y: u32) -> Step {
+    step(Call::CompleteWrite { x, y })
+}
+
 impl Step {
     pub fn lending(mut self, buffer: Buffer, size: usize) -> Step {
         self.odd.push((buffer, size));
@@ -80,7 +85,22 @@ impl Step {
             Call::Complete { .. } => Kind::Complete,
             Call::Ask { .. } => Kind::Ask,
             Call::Count { .. } => Kind::Count,
+            Call::CompleteWrite { .. } => Kind::CompleteWrite,
         }
+    }
+
+    /// The calls that were made, each with what it was lent and answered: the call itself, but for a joint one the completion and,
+    /// where that was granted, the write.
+    pub fn made(&self, answer: &Answer) -> Vec<(Step, Answer)> {
+        let Call::CompleteWrite { x, y } = self.call else { return vec![(self.clone(), *answer)] };
+        let first = Answer { refusal: answer.refusal, ..Answer::default() };
+        let mut made = vec![(Step { call: Call::Complete { block: x }, ..self.clone() }, first)];
+        made[0].0.odd.retain(|&(buffer, _)| buffer == Buffer::Table);
+        if answer.refusal == 0 {
+            let second = Answer { refusal: answer.second, set: answer.set, ..Answer::default() };
+            made.push((Step { call: Call::Write { block: y }, ..self.clone() }, second));
+        }
+        made
     }
 }
 
@@ -93,7 +113,8 @@ impl Call {
             | Call::Write { .. }
             | Call::Complete { .. }
             | Call::Ask { .. }
-            | Call::Count { .. } => None,
+            | Call::Count { .. }
+            | Call::CompleteWrite { .. } => None,
         }
     }
 
@@ -105,7 +126,8 @@ impl Call {
             | Call::Create { .. }
             | Call::Write { .. }
             | Call::Complete { .. }
-            | Call::Count { .. } => None,
+            | Call::Count { .. }
+            | Call::CompleteWrite { .. } => None,
         }
     }
 
@@ -117,7 +139,8 @@ impl Call {
             | Call::Write { .. }
             | Call::Complete { .. }
             | Call::Ask { .. }
-            | Call::Count { .. } => None,
+            | Call::Count { .. }
+            | Call::CompleteWrite { .. } => None,
         }
     }
 }
@@ -131,6 +154,8 @@ pub struct Answer {
     pub set: u64,
     pub state: u32,
     pub count: u32,
+    /// Of a joint call the write's answer; `refusal` is the completion's.
+    pub second: u32,
 }
 
 /// The buffers of one side.
@@ -207,6 +232,11 @@ pub fn play(library: &dyn Library, lent: &mut Lent, call: &Call) -> Answer {
         Call::Count { block } => {
             answer.count = UNWRITTEN;
             library.count(table, *block, &mut answer.count)
+        }
+        Call::CompleteWrite { x, y } => {
+            (answer.second, answer.set) = (UNWRITTEN, u64::from(UNWRITTEN));
+            let (second, set) = (&mut answer.second, &mut answer.set);
+            library.complete_write(table, image, undo, handed, *x, *y, second, set)
         }
     };
     answer

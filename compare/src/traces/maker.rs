@@ -1,11 +1,11 @@
 //! Makes traces from a seed: orders of calls as the bench makes them elsewhere, recorded, mostly with a cut at the end. The calls are
 //! chosen with an eye on the table as it stands. Some traces are damaged afterwards (damage.rs).
 
-use crate::model::record::{LONGEST_VALUE, Record};
+use crate::model::record::{LONGEST_VALUE, Record, Recorded};
 use crate::model::replay::{Replay, Run};
-use crate::model::rules::Right;
+use crate::model::rules::{Model, Right};
 use crate::model::setting::Setting;
-use crate::model::table::Table;
+use crate::model::table::{Refusal, Table};
 use crate::orders::maker::{Maker, Taste, first_number};
 use crate::orders::random::Random;
 use crate::orders::steps::Call;
@@ -40,7 +40,7 @@ fn sensible(random: &mut Random) -> Vec<Vec<u8>> {
     while made.len() <= calls
         && let Some(table) = &run.table
     {
-        if let Some(record) = recorded(maker.step(table).call) {
+        for record in recorded(maker.step(table).call, table) {
             Right.line(&mut run, &record);
             made.push(record);
         }
@@ -60,25 +60,30 @@ fn opening(random: &mut Random) -> u32 {
 
 /// Ask and count are in no trace.
 fn taste(random: &mut Random) -> Taste {
-    let taste = Taste::of_seed(random);
+    let taste = Taste::of_seed(random).with_joint_calls(random);
     let [create, write, complete, ..] = taste.weights;
     Taste { weights: [create, write, complete, 0, 0], faults: 10, ..taste }
 }
 
-/// The call as a record has it: what does not fit is made to. None for a call that has no record.
-fn recorded(call: Call) -> Option<Record> {
+/// The call on a table as records have it: what does not fit is made to. None for a call that has no record.
+fn recorded(call: Call, table: &Table) -> Vec<Record> {
     let byte = |block: u32| block.min(u32::from(u8::MAX));
     match call {
-        Call::Open { first } => Some(Record::Open { first }),
+        Call::Open { first } => vec![Record::Open { first }],
         Call::Create { block, offset, mut data, mut named } => {
             named.truncate(usize::from(u8::MAX));
             data.truncate(LONGEST_VALUE - 4 - 4 * named.len());
             let offset = offset.min(u32::from(u16::MAX));
-            Some(Record::Create { block: byte(block), offset, named, data })
+            vec![Record::Create { block: byte(block), offset, named, data }]
         }
-        Call::Write { block } => Some(Record::Write { block: byte(block) }),
-        Call::Complete { block } => Some(Record::Complete { block: byte(block) }),
-        Call::Ask { .. } | Call::Count { .. } => None,
+        Call::Write { block } => vec![Record::Write { block: byte(block) }],
+        Call::Complete { block } => vec![Record::Complete { block: byte(block) }],
+        Call::CompleteWrite { x, y } => {
+            let (x, y) = (byte(x), byte(y));
+            let first = Right.given_by_completing(table, x).map_or_else(Refusal::number, |_| 0);
+            Recorded::CompleteWrite { x, y, first }.made()
+        }
+        Call::Ask { .. } | Call::Count { .. } => Vec::new(),
     }
 }
 
