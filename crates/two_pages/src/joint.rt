@@ -16,19 +16,20 @@ fn to_flight(image: &mut [u8; IMAGE_BYTES], undo: &mut [u8; UNDO_BYTES]) -> Tabl
     calls::write(t, image, undo, Row::Joint, 50)
 }
 
-// Completing is refused: nothing is written, whatever the write would have answered.
+// Completing is refused: nothing is written, whatever the write would have answered. The last lends an image of
+// one byte.
 fn first_refused(t: Table, image: &[u8; IMAGE_BYTES], undo: &[u8; UNDO_BYTES]) {
     calls::complete_write(t, image, undo, Row::Joint, 51, 50);
     calls::complete_write(t, image, undo, Row::Joint, 64, 51);
-    calls::complete_write(t, &image[..16383], undo, Row::Joint, 51, 51);
+    calls::complete_write(t, &[0], undo, Row::Joint, 51, 51);
 }
 
-// Only the write is refused: the completion stands. Each goes on from the same table.
+// Only the write is refused, in the end by its image: the completion stands. Each goes on from the same table.
 fn second_refused(t: Table, image: &[u8; IMAGE_BYTES], undo: &[u8; UNDO_BYTES]) {
     calls::complete_write(t, image, undo, Row::Joint, 50, 64);
     calls::complete_write(t, image, undo, Row::Joint, 50, 53);
     calls::complete_write(t, image, undo, Row::Joint, 50, 50);
-    let stands = calls::complete_write(t, &image[..16383], undo, Row::Joint, 50, 51);
+    let stands = calls::complete_write(t, &[0], undo, Row::Joint, 50, 51);
     calls::ask(t, Row::Joint, 1);
     calls::ask(stands, Row::Joint, 1);
     calls::ask(stands, Row::Joint, 2);
