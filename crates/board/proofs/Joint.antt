@@ -8,12 +8,12 @@ use borrow.Author.Tests.{ne-eqb}
 use Rattle.rules.specs.declared.WriteAnswer.{WriteAnswer}
 use Rattle.rules.specs.declared.WriteAnswer.the-variants as write
 use Rattle.rules.specs.Table.{Table}
-use Rattle.rules.specs.Calls.{plainNumber, writeNumber, sentSet, Writing, Writes, Completion, Completes}
+use Rattle.rules.specs.Calls.{plainNumber, writeNumber, Writing, Writes, Completion, Completes}
 use Rattle.rules.specs.Joint.{Joint, CompletesWrites, jointStopped, jointWent, tried, secondNumber, secondSet}
 use Rattle.rules.proofs.Joint.{tried-number, tried-set, joint-refused, joint-tried, second-most}
 use Rattle.layout.specs.Layout.{IsTable, tableIn, bytesOf}
-use Rattle.board.specs.Calls.{tableAfter, writeEnd, WriteCall, CompleteCall, notTried, secondAs, JointEnd, jointEnd, JointCall}
-use Rattle.board.specs.Joint.{endStopped, endWent, TwoCalls}
+use Rattle.board.specs.Calls.{tableAfter, writeEnd, notTried, secondAs, JointEnd, jointEnd, JointCall}
+use Rattle.board.specs.Joint.{endStopped, TwoCalls}
 use Rattle.board.proofs.Answers.{complete-none}
 use Rattle.board.proofs.Kept.{Bytes, complete-kept}
 use Rattle.board.proofs.OneAnswer.{table-or-not}

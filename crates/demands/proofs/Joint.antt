@@ -2,7 +2,7 @@
 use Prim.Native.Nat.{ℕ, zero, suc, _<_}
 use mathlib.Core.Path.{_≡_, refl, sym, ap, ap₂, subst, _∙_}
 use mathlib.Core.Bool.{Bool, true, false, cond}
-use mathlib.Core.List.{List, [], _∷_}
+use mathlib.Core.List.{List, _∷_}
 use native.Mathlib.Decide.{ℕ-discrete}
 use native.Mathlib.Omega.{arith}
 use Rattle.masks.specs.Sets.{has}
@@ -10,10 +10,10 @@ use Rattle.rules.specs.declared.Slot.{Slot}
 use Rattle.rules.specs.Sizes.{slots}
 use Rattle.rules.specs.Table.{Table, slotAt}
 use Rattle.rules.specs.Write.{sentSlots, sentSlot, sent}
-use Rattle.rules.specs.Calls.{plainNumber, Writing, Writes, writeNumber, writeRefused, writeGranted, sentSet, Completion, Completes}
+use Rattle.rules.specs.Calls.{Writing, Writes, writeNumber, writeGranted, sentSet, Completion}
 use Rattle.rules.specs.Joint.{Joint, CompletesWrites, jointStopped, jointWent}
 use Rattle.rules.proofs.After.{sent-at}
-use Rattle.demands.specs.History.{Sent, History, numbersBelow, stillOut, Call, Happened, afterWrite, afterComplete}
+use Rattle.demands.specs.History.{History, numbersBelow, Call, Happened, afterWrite, afterComplete}
 use Rattle.demands.specs.Demand3.{Later}
 use Rattle.demands.specs.Joint.{afterJoint, CallsMade, JointIsCalls}
 use Rattle.demands.proofs.Reach.{write-reaches}

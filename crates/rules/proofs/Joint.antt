@@ -5,16 +5,13 @@ use mathlib.Core.Path.{_≡_, refl, sym, ap, subst, _∙_}
 use mathlib.Core.List.{List}
 use mathlib.Core.Option.{some, Option·none-ne-some, Option·some-injective}
 use native.Mathlib.Omega.{arith}
-use native.Mathlib.Decide.{ℕ-discrete}
-use Rattle.rules.specs.declared.Answer.the-variants as plain
 use Rattle.rules.specs.declared.WriteAnswer.{WriteAnswer}
 use Rattle.rules.specs.declared.WriteAnswer.the-variants as write
-use Rattle.rules.specs.declared.SecondAnswer.{SecondAnswer}
 use Rattle.rules.specs.declared.SecondAnswer.the-variants as second
 use Rattle.rules.specs.Table.{Table, Sound}
 use Rattle.rules.specs.Complete.{completed}
 use Rattle.rules.specs.Refusals.{writeCases}
-use Rattle.rules.specs.Calls.{plainNumber, writeNumber, sentSet, Writing, Writes, writeRefused, writeGranted, Completion, Completes, completeRefused}
+use Rattle.rules.specs.Calls.{plainNumber, writeNumber, sentSet, Writing, Writes, writeRefused, Completion, completeRefused}
 use Rattle.rules.specs.Calls.{completeGranted}
 use Rattle.rules.specs.Joint.{Joint, CompletesWrites, jointStopped, jointWent, tried, secondNumber, secondSet}
 use Rattle.rules.proofs.Cases.{AtMost, first-most}

@@ -4,9 +4,9 @@ use mathlib.Core.Path.{_≡_, refl, sym, ap, subst}
 use mathlib.Core.Bool.{true}
 use mathlib.Core.List.{List, [], _∷_}
 use Rattle.rules.specs.Calls.{plainNumber, writeNumber, Writing, Writes, Completion, Completes}
-use Rattle.rules.specs.Joint.{Joint, CompletesWrites, jointStopped, jointWent, secondNumber}
+use Rattle.rules.specs.Joint.{Joint, CompletesWrites, jointStopped, jointWent}
 use Rattle.rules.proofs.Joint.{tried-number}
-use Rattle.records.specs.Record.{Call, writes, completes}
+use Rattle.records.specs.Record.{Call, completes}
 use Rattle.records.specs.Writer.{callsMade}
 use Rattle.records.proofs.CallsMade.{both-made, one-made}
 use Rattle.trace.specs.declared.types.Phase.the-variants as phase

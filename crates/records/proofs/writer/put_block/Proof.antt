@@ -1,9 +1,5 @@
 -- `writer::put_block` meets its contract: the tag, the length and the block, each right after the one before. Assumes nothing.
-use Prim.Native.Nat.{ℕ, _+_}
-use mathlib.Core.Path.{refl, ap, _∙_}
-use mathlib.Core.List.{List}
-use denote.Ref.{now}
-use Rattle.spans.specs.Spans.{splice}
+use mathlib.Core.Path.{refl}
 use Rattle.spans.proofs.Laws.{laid}
 use Rattle.records.specs.Record.{highFirst}
 use borrow.Author.Needs.{needs}
