@@ -24,7 +24,7 @@ tried-as (write.Granted s) = refl
 tried-as (write.Refused k) = refl
 
 -- a refused call writes no table, a granted one writes it
-unwritten : (k : ℕ) (table : List ℕ) (next : Table) → (k ≡ 0 → ⊥) → tableAfter k table next ≡ table
+pub unwritten : (k : ℕ) (table : List ℕ) (next : Table) → (k ≡ 0 → ⊥) → tableAfter k table next ≡ table
 unwritten k table next n = rw (ne-eqb k 0 n)
 
 written : (k : ℕ) (table : List ℕ) (next : Table) → k ≡ 0 → tableAfter k table next ≡ bytesOf next

@@ -1,16 +1,11 @@
 -- Which lent bytes a function of the library reaches: on bytes that are a table those that its call reaches, on others none. Assumes nothing.
-use Prim.Native.Nat.{ℕ, zero, suc, _+_, _≤_, _<_}
+use Prim.Native.Nat.{ℕ, _+_}
 use mathlib.Core.Path.{_≡_, refl, sym, ap, subst, _∙_}
 use mathlib.Core.List.{List}
 use mathlib.Core.Option.{Option, none, some}
-use native.Mathlib.Decide.{ℕ-discrete, decLe}
 use native.Mathlib.Omega.{arith}
-use borrow.Author.Count.{below-none, below-more}
-use borrow.Author.Tests.{ne-eqb}
-use lib.ListN.{length}
 use Rattle.rules.specs.declared.Hold.{Hold}
 use Rattle.rules.specs.declared.Hold.the-variants as hold
-use Rattle.rules.specs.Sizes.{slots}
 use Rattle.rules.specs.Table.{Table}
 use Rattle.rules.specs.Create.{Change}
 use Rattle.rules.specs.Refusals.{First}
@@ -18,30 +13,14 @@ use Rattle.rules.specs.Calls.{createNumber, hardOrSoft, writeNumber, plainNumbe
 use Rattle.rules.specs.Joint.{Joint, CompletesWrites}
 use Rattle.rules.proofs.Cases.{passed}
 use Rattle.demands.proofs.QuestionSeven.{question-seven}
-use Rattle.layout.specs.Layout.{tableBytes, slotStart, numberAt, tableIn, IsTable}
-use Rattle.board.specs.Calls.{noTableCases, tableAfter, holdNumber, CreateEnd, CreateCall, WriteEnd, WriteCall, CompleteCall}
+use Rattle.layout.specs.Layout.{tableIn, IsTable}
+use Rattle.board.specs.Calls.{noTableCases, holdNumber, CreateEnd, CreateCall, WriteEnd, WriteCall, CompleteCall}
 use Rattle.board.specs.Calls.{secondAs, JointEnd, JointCall}
-use Rattle.board.proofs.Joint.{tried-as}
+use Rattle.board.proofs.OneAnswer.{table-or-not}
+use Rattle.board.proofs.Joint.{tried-as, unwritten}
 use Rattle.firmware.specs.Answers.{CreateEndReaches}
 
--- ---- bytes are a table or they are not
-
-below? : {P : ℕ → Type 0} → ((i : ℕ) → Dec (P i)) → (n : ℕ) → Dec ((i : ℕ) → i < n → P i)
-below? d zero = yes (below-none _)
-below? {P} d (suc n) = by (below? d n) (d n)
-  where
-    by : Dec ((i : ℕ) → i < n → P i) → Dec (P n) → Dec ((i : ℕ) → i < suc n → P i)
-    by (yes f) (yes p) = yes (λ i l. below-more P n f p i (omega arith))
-    by (yes f) (no p) = no (λ g. p (g n (omega arith)))
-    by (no f) d = no (λ g. f (λ i l. g i (omega arith)))
-
-table? : (xs : List ℕ) → Dec (IsTable xs)
-table? xs = by (ℕ-discrete (length xs) tableBytes) (below? (λ i. decLe (numberAt xs (slotStart i) 4) 4) slots)
-  where
-    by : Dec (length xs ≡ tableBytes) → Dec ((i : ℕ) → i < slots → numberAt xs (slotStart i) 4 ≤ 4) → Dec (IsTable xs)
-    by (yes e) (yes f) = yes (record { size = e; tags = f })
-    by (yes e) (no f) = no (λ t. f (t .tags))
-    by (no e) d = no (λ t. e (t .size))
+-- ---- bytes that are no table
 
 -- where there is none, no call is granted
 no-grant : {xs : List ℕ} {Wrong : Type 0} {k : ℕ} → (IsTable xs → ⊥) → First (noTableCases xs Wrong) k → k ≡ 0 → ⊥
@@ -64,13 +43,9 @@ hold-soft (some (hold.Soft q)) r e = let z : q ≡ r = omega arith in ap (λ (n 
 
 -- ---- the functions
 
--- a refused call writes no table
-unwritten : (k : ℕ) (xs : List ℕ) (next : Table) → (k ≡ 0 → ⊥) → tableAfter k xs next ≡ xs
-unwritten k xs next d = rw (ne-eqb k 0 d)
-
 module _ (table image undo : List ℕ) (c : Change) (e : CreateEnd) (p : CreateCall table image undo c e) where
   pub create-reaches : e .refusal ≡ 0 → CreateEndReaches image undo c e
-  create-reaches z = by (table? table)
+  create-reaches z = by (table-or-not table)
     where
       by : Dec (IsTable table) → CreateEndReaches image undo c e
       by (yes t) =
@@ -85,7 +60,7 @@ module _ (table image undo : List ℕ) (c : Change) (e : CreateEnd) (p : CreateC
       by (no n) = absurd (no-grant n (p .no-table n .0) z)
 
   pub create-refused : (e .refusal ≡ 0 → ⊥) → (e .table ≡ table) × (e .image ≡ image) × (e .undo ≡ undo)
-  create-refused d = by (table? table)
+  create-refused d = by (table-or-not table)
     where
       by : Dec (IsTable table) → (e .table ≡ table) × (e .image ≡ image) × (e .undo ≡ undo)
       by (yes t) =
@@ -100,7 +75,7 @@ module _ (table image undo : List ℕ) (c : Change) (e : CreateEnd) (p : CreateC
 
 module _ (table image undo handed : List ℕ) (b : ℕ) (e : WriteEnd) (p : WriteCall table image undo handed b e) where
   pub write-reaches : (e .image ≡ image) × (e .undo ≡ undo)
-  write-reaches = by (table? table)
+  write-reaches = by (table-or-not table)
     where
       by : Dec (IsTable table) → (e .image ≡ image) × (e .undo ≡ undo)
       by (yes t) =
@@ -110,7 +85,7 @@ module _ (table image undo handed : List ℕ) (b : ℕ) (e : WriteEnd) (p : Writ
       by (no n) = let same = p .no-table n .1 in (ap (λ (x : WriteEnd). x .image) same, ap (λ (x : WriteEnd). x .undo) same)
 
   pub write-refused : (e .refusal ≡ 0 → ⊥) → (e .table ≡ table) × (e .handed ≡ handed)
-  write-refused d = by (table? table)
+  write-refused d = by (table-or-not table)
     where
       by : Dec (IsTable table) → (e .table ≡ table) × (e .handed ≡ handed)
       by (yes t) =
@@ -122,7 +97,7 @@ module _ (table image undo handed : List ℕ) (b : ℕ) (e : WriteEnd) (p : Writ
       by (no n) = let same = p .no-table n .1 in (ap (λ (x : WriteEnd). x .table) same, ap (λ (x : WriteEnd). x .handed) same)
 
 pub complete-refused : (table : List ℕ) (b k : ℕ) (after : List ℕ) → CompleteCall table b k after → (k ≡ 0 → ⊥) → after ≡ table
-complete-refused table b k after p d = by (table? table)
+complete-refused table b k after p d = by (table-or-not table)
   where
     by : Dec (IsTable table) → after ≡ table
     by (yes t) = let q = p .is-table t in q .3 ∙ unwritten _ table (q .0 .table) (λ z. d (q .2 ∙ z))
@@ -138,7 +113,7 @@ handed-kept (CompletesWrites.goes-on c p z w q e) d =
 
 module _ (table image undo handed : List ℕ) (x y : ℕ) (e : JointEnd) (p : JointCall table image undo handed x y e) where
   pub joint-reaches : (e .image ≡ image) × (e .undo ≡ undo)
-  joint-reaches = by (table? table)
+  joint-reaches = by (table-or-not table)
     where
       by : Dec (IsTable table) → (e .image ≡ image) × (e .undo ≡ undo)
       by (yes t) =
@@ -148,7 +123,7 @@ module _ (table image undo handed : List ℕ) (x y : ℕ) (e : JointEnd) (p : Jo
       by (no n) = let same = p .no-table n in (ap (λ (u : JointEnd). u .image) same, ap (λ (u : JointEnd). u .undo) same)
 
   pub joint-refused : (e .first ≡ 0 → ⊥) → (e .table ≡ table) × (e .handed ≡ handed)
-  joint-refused d = by (table? table)
+  joint-refused d = by (table-or-not table)
     where
       by : Dec (IsTable table) → (e .table ≡ table) × (e .handed ≡ handed)
       by (yes t) =
@@ -160,7 +135,7 @@ module _ (table image undo handed : List ℕ) (x y : ℕ) (e : JointEnd) (p : Jo
       by (no n) = let same = p .no-table n in (ap (λ (u : JointEnd). u .table) same, ap (λ (u : JointEnd). u .handed) same)
 
   pub joint-write-refused : (e .second ≡ 0 → ⊥) → e .handed ≡ handed
-  joint-write-refused d = by (table? table)
+  joint-write-refused d = by (table-or-not table)
     where
       by : Dec (IsTable table) → e .handed ≡ handed
       by (yes t) =
