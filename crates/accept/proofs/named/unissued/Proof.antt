@@ -7,7 +7,7 @@ use denote.Ref.{now}
 use lib.ListN.{length, getD}
 use Rattle.ground.proofs.Decided.{yes-not, no-not}
 use Rattle.rules.specs.Table.{Issued}
-use Rattle.accept.proofs.Members.{at-in, in-at}
+use Rattle.slots.proofs.Members.{at-in, in-at}
 use borrow.Author.Needs.{needs}
 use Rattle.accept.proofs.named.unissued.Statement.{statement}
 use Rattle.accept.proofs.named.unissued.Tie as tie

@@ -1,4 +1,4 @@
--- `accept::befores::is_in` meets its contract. The loop's invariant: none of the numbers passed is n. Assumes nothing.
+-- `befores::is_in` meets its contract. The loop's invariant: none of the numbers passed is n. Assumes nothing.
 use Prim.Native.Nat.{ℕ, _≤_, _<_, _-_}
 use mathlib.Core.Path.{_≡_, sym, subst}
 use mathlib.Core.Bool.{true}
@@ -7,10 +7,10 @@ use borrow.Author.Count.{below-none, below-more}
 use denote.Ref.{now}
 use lib.ListN.{length, getD}
 use Rattle.rules.specs.Create.{isIn}
-use Rattle.accept.proofs.Members.{at-in, nowhere-in}
+use Rattle.slots.proofs.Members.{at-in, nowhere-in}
 use borrow.Author.Needs.{needs}
-use Rattle.accept.proofs.befores.is_in.Statement.{statement}
-use Rattle.accept.proofs.befores.is_in.Tie as tie
+use Rattle.befores.proofs.is_in.Statement.{statement}
+use Rattle.befores.proofs.is_in.Tie as tie
 
 abbrev Inv-loop : tie.InvT-loop
 Inv-loop n numbers k₀ k = (k ≤ length numbers) × ((j : ℕ) → j < k → getD numbers j 0 ≡ n → ⊥)

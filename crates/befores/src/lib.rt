@@ -4,7 +4,7 @@ ghost use mathlib.Core.Path.{_≡_};
 ghost use Prim.Native.Nat.{_<_, _^_};
 ghost use Rattle.rules.specs.Create.{changeOf, isIn, shares, befores, added};
 ghost use mathlib.Core.List.{[]};
-ghost use Rattle.accept.specs.OneSlot.{follows, elsewhere};
+ghost use Rattle.befores.specs.OneSlot.{follows, elsewhere};
 use rules::Slot;
 use rules::sizes::SLOTS;
 use slots::words::is_hard_patch;

@@ -1,12 +1,12 @@
--- `accept::befores::shares` meets its contract: the code takes the later start and the earlier end by a test each. Assumes nothing.
+-- `befores::shares` meets its contract: the code takes the later start and the earlier end by a test each. Assumes nothing.
 use Prim.Native.Nat.{_+_, min, max}
 use mathlib.Core.Path.{_≡_, ap₂}
 use mathlib.Core.Logic.{⊎-elim}
 use native.Mathlib.Omega.{arith}
 use lib.Dec.{ltb}
 use borrow.Author.Needs.{needs}
-use Rattle.accept.proofs.befores.shares.Statement.{statement}
-use Rattle.accept.proofs.befores.shares.Tie as tie
+use Rattle.befores.proofs.shares.Statement.{statement}
+use Rattle.befores.proofs.shares.Tie as tie
 
 add-a-end : tie.Need-add-a-end
 add-a-end c = search needs

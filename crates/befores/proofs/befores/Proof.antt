@@ -1,4 +1,4 @@
--- `accept::befores::befores` meets its contract. The loop's invariant: the set so far is that of the slots passed that the patch follows.
+-- `befores::befores` meets its contract. The loop's invariant: the set so far is that of the slots passed that the patch follows.
 -- Assumes nothing.
 use Prim.Native.Nat.{ℕ, _-_, _≤_}
 use mathlib.Core.Path.{_≡_, sym, ap, _∙_}
@@ -11,10 +11,10 @@ use Rattle.masks.proofs.Laws.{below-none, with-if-below}
 use Rattle.rules.specs.declared.Slot.{Slot}
 use Rattle.rules.specs.Table.{slotAt}
 use Rattle.rules.specs.Create.{Change, befores}
-use Rattle.accept.specs.OneSlot.{follows}
+use Rattle.befores.specs.OneSlot.{follows}
 use borrow.Author.Needs.{needs}
-use Rattle.accept.proofs.befores.befores.Statement.{statement}
-use Rattle.accept.proofs.befores.befores.Tie as tie
+use Rattle.befores.proofs.befores.Statement.{statement}
+use Rattle.befores.proofs.befores.Tie as tie
 
 -- the test that the walk asks of slot k
 abbrev passes : List Slot → Change → ℕ → Bool

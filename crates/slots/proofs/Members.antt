@@ -1,4 +1,5 @@
--- A number is in a list just where it stands at one of its places: what a walk over a lent slice shows of isIn. Assumes nothing.
+-- A number is in a list just where it stands at one of its places: what a walk over a lent slice shows of isIn.
+-- The walks of the crates above cite these. Assumes nothing.
 use Prim.Native.Nat.{ℕ, zero, suc, _<_}
 use mathlib.Core.Path.{_≡_, refl, sym}
 use mathlib.Core.Bool.{true, false}

@@ -1,4 +1,4 @@
--- `accept::befores::added` meets its contract. The loop's invariant: the set so far is that of the slots passed that are named and of another block.
+-- `befores::added` meets its contract. The loop's invariant: the set so far is that of the slots passed that are named and of another block.
 -- Assumes nothing.
 use Prim.Native.Nat.{ℕ, _-_, _≤_}
 use mathlib.Core.Path.{_≡_, sym, ap, _∙_}
@@ -11,10 +11,10 @@ use Rattle.masks.proofs.Laws.{below-none, with-if-below}
 use Rattle.rules.specs.declared.Slot.{Slot}
 use Rattle.rules.specs.Table.{slotAt}
 use Rattle.rules.specs.Create.{changeOf, added}
-use Rattle.accept.specs.OneSlot.{elsewhere}
+use Rattle.befores.specs.OneSlot.{elsewhere}
 use borrow.Author.Needs.{needs}
-use Rattle.accept.proofs.befores.added.Statement.{statement}
-use Rattle.accept.proofs.befores.added.Tie as tie
+use Rattle.befores.proofs.added.Statement.{statement}
+use Rattle.befores.proofs.added.Tie as tie
 
 -- the test that the walk asks of slot k
 abbrev passes : List Slot → ℕ → List ℕ → ℕ → Bool

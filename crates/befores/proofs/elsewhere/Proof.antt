@@ -1,4 +1,4 @@
--- `accept::befores::elsewhere` meets its contract: each answer is what the tests before it leave of one slot. Assumes nothing.
+-- `befores::elsewhere` meets its contract: each answer is what the tests before it leave of one slot. Assumes nothing.
 use mathlib.Core.Path.{_≡_, sym, _∙_}
 use mathlib.Core.Bool.{true, _&&_, and-true, and-false}
 use borrow.Author.Tests.{not-true, not-false, eq-eqb, ne-eqb}
@@ -6,8 +6,8 @@ use borrow.Author.Needs.{needs}
 use denote.Ref.{now}
 use Rattle.rules.specs.Slots.{isUsed}
 use Rattle.rules.specs.Create.{isIn}
-use Rattle.accept.proofs.befores.elsewhere.Statement.{statement}
-use Rattle.accept.proofs.befores.elsewhere.Tie as tie
+use Rattle.befores.proofs.elsewhere.Statement.{statement}
+use Rattle.befores.proofs.elsewhere.Tie as tie
 
 -- where the function starts
 abbrev start : tie.After-is-used → tie.Start

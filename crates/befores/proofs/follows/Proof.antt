@@ -1,4 +1,4 @@
--- `accept::befores::follows` meets its contract: each answer is what the tests before it leave of one slot. Assumes nothing.
+-- `befores::follows` meets its contract: each answer is what the tests before it leave of one slot. Assumes nothing.
 use mathlib.Core.Path.{_≡_, sym, _∙_}
 use mathlib.Core.Bool.{Bool, true, false, and-false, or-true, or-false}
 use borrow.Author.Tests.{not-true, not-false, eq-eqb, ne-eqb}
@@ -11,8 +11,8 @@ use Rattle.ground.proofs.Decided.{clash, true-or-false}
 use mathlib.Core.Logic.{⊎-elim}
 use Rattle.rules.specs.Create.{isIn, shares}
 use borrow.Author.Needs.{needs}
-use Rattle.accept.proofs.befores.follows.Statement.{statement}
-use Rattle.accept.proofs.befores.follows.Tie as tie
+use Rattle.befores.proofs.follows.Statement.{statement}
+use Rattle.befores.proofs.follows.Tie as tie
 
 -- where the function starts, seen from its first test, and where the slot is known to be in use, seen from where its number is known not to be named
 abbrev start : tie.After-is-used → tie.Start

@@ -1,0 +1,2 @@
+-- What the private tests on one slot answer.
+pub mod OneSlot
