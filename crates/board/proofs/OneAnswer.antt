@@ -137,7 +137,8 @@ record-call-one buffer c e e′ p q =
     a .2 ∙ ap recordEnd (record-one buffer c (a .0) (b .0) (a .1) (b .1)) ∙ sym (b .2)
 
 -- and the one for the joint call
-pub joint-record-call-one : (buffer : List ℕ) (x y first : ℕ) (e e′ : RecordEnd) → JointRecordCall buffer x y first e → JointRecordCall buffer x y first e′ → e ≡ e′
+pub joint-record-call-one : (buffer : List ℕ) (x y first : ℕ) (e e′ : RecordEnd) → JointRecordCall buffer x y first e
+    → JointRecordCall buffer x y first e′ → e ≡ e′
 joint-record-call-one buffer x y first e e′ p q =
     let a = p .is in
     let b = q .is in

@@ -62,7 +62,8 @@ module _ {t : Table} {image undo block : List ℕ} {x y : ℕ} {o : Joint} where
       → o ≡ writeAloneRefused t image undo block x k
   joint-write-refused k (CompletesWrites.stops c p n e) s d = absurd (Option·none-ne-some k (sym (ap (λ (z : Joint). secondNumber (z .second)) e) ∙ s))
   joint-write-refused k (CompletesWrites.goes-on c p z w q e) s d =
-      let same : writeNumber (w .answer) ≡ k = Option·some-injective _ k (sym (tried-number (w .answer)) ∙ sym (ap (λ (z : Joint). secondNumber (z .second)) e) ∙ s) in
+      let told = sym (tried-number (w .answer)) ∙ sym (ap (λ (z : Joint). secondNumber (z .second)) e) ∙ s in
+      let same : writeNumber (w .answer) ≡ k = Option·some-injective _ k told in
       let g = p .grant z in
       e ∙ ap (jointWent c) (q .refusal (λ u. d (sym same ∙ u)))
       ∙ ap (λ (j : ℕ). jointWent c (writeRefused (c .table) image undo block j)) same

@@ -46,6 +46,7 @@ jointWent c w = record { first = c .answer; second = tried (w .answer); table = 
 
 -- if completing is refused, nothing is written; else both calls are made
 pub data CompletesWrites (t : Table) (image undo block : List ℕ) (x y : ℕ) (o : Joint) : Type 0 where
-  stops : (c : Completion) → Completes t x c → (plainNumber (c .answer) ≡ 0 → ⊥) → o ≡ jointStopped c image undo block → CompletesWrites t image undo block x y o
+  stops : (c : Completion) → Completes t x c → (plainNumber (c .answer) ≡ 0 → ⊥) → o ≡ jointStopped c image undo block
+      → CompletesWrites t image undo block x y o
   goes-on : (c : Completion) → Completes t x c → plainNumber (c .answer) ≡ 0 → (w : Writing) → Writes (c .table) image undo block y w → o ≡ jointWent c w
       → CompletesWrites t image undo block x y o
