@@ -8,16 +8,12 @@ use Rattle.rules.specs.declared.Hold.the-variants as hold
 use Rattle.rules.specs.declared.Setting.{Setting}
 use Rattle.rules.specs.declared.Slot.{Slot}
 use Rattle.rules.specs.Settings.{rooms}
-use Rattle.rules.specs.Table.{slotAt, waitsOn, Issued}
-use Rattle.rules.specs.Create.{isIn, WouldBeHard, FreeRoom, HoldOf, Joins, LowestNumbered}
+use Rattle.rules.specs.Table.{slotAt, waitsOn}
+use Rattle.rules.specs.Create.{WouldBeHard, FreeRoom, HoldOf, Joins, LowestNumbered}
 use Rattle.accept.specs.declared.types.Entry.{Entry}
 use Rattle.accept.specs.declared.types.Entry.the-variants as entry
 use Rattle.accept.specs.declared.types.Holding.{Holding}
 use Rattle.accept.specs.declared.types.Holding.the-variants as holding
-
--- some number of the list was never issued
-abbrev pub Unissued : (next : ℕ) → List ℕ → Type 0
-Unissued next numbers = (n : ℕ) × (isIn n numbers ≡ true) × (Issued next n → ⊥)
 
 -- slot j has the lowest-numbered waiting patch of block b, and no slot below it has one with that number: in a sound table none can
 pub record FirstNumbered (ss : List Slot) (b j : ℕ) : Type 0 where

@@ -1,22 +1,19 @@
--- Write and complete: each answer from the facts that the code has found where it returns it.
+-- Write past its early refusals, and complete: each answer from the facts that the code has found where it returns it.
 use Prim.Native.Nat.{ℕ, _≤_, _<_}
 use mathlib.Core.Path.{_≡_, refl, sym, subst₂}
 use mathlib.Core.List.{List, [], _∷_}
-use mathlib.Core.Logic.{_⊎_, ⊎-elim}
+use mathlib.Core.Logic.{⊎-elim}
 use native.Mathlib.Omega.{arith}
-use lib.ListN.{length}
-use Rattle.rules.specs.Sizes.{blocks, blockBytes, imageBytes}
-use Rattle.rules.specs.Settings.{undoBytes}
-use Rattle.rules.specs.Table.{Table, Sound, Flies, Waits}
+use Rattle.rules.specs.Sizes.{blocks}
+use Rattle.rules.specs.Table.{Table, Sound, Flies}
 use Rattle.rules.specs.declared.WriteAnswer.the-variants as write
 use Rattle.rules.specs.Write.{Largest, sent, handedOut}
-use Rattle.rules.specs.Refusals.{Case, case, First, WrongSize, OnlyEmpty, writeCases}
+use Rattle.rules.specs.Refusals.{case, First, OnlyEmpty, writeCases}
 use Rattle.rules.specs.Calls.{Writes, writeRefused, writeGranted, Completes, completeRefused, completeGranted}
 use Rattle.rules.proofs.Largest.{largest-empty}
 use Rattle.rules.proofs.Cases.{holds, passes, none-holds}
 use Rattle.rules.proofs.Outcomes.{refuses, grants}
 use Rattle.rules.specs.Passed.{WriteReady}
-use Rattle.cache.specs.Judged.{Judged, WriteJudged}
 
 module _ (t : Table) (b : ℕ) where
   pub complete-unsound : (Sound t → ⊥) → Completes t b (completeRefused t 2)
@@ -31,46 +28,12 @@ module _ (t : Table) (b : ℕ) where
   pub complete-granted : Sound t → b < blocks → Flies (t .slots) b → Completes t b (completeGranted t b)
   complete-granted s l f = grants (completeGranted t b) (passes (λ u. u s) (passes (λ m. omega arith) (passes (λ n. n f) none-holds))) refl refl
 
--- a first case that holds, and nothing more to know
-pub judged : {cases : List Case} {Ready : Type 0} (k : ℕ) → (k ≡ 0 → ⊥) → First cases k → Judged cases Ready k
-judged k d f = record { refused = λ e. f; ready = λ z. absurd (d z) }
-
 module _ (t : Table) (image undo block : List ℕ) (b : ℕ) where
-  pub write-wrong-size : (WrongSize imageBytes image ⊎ (WrongSize (undoBytes (t .setting)) undo ⊎ WrongSize blockBytes block))
-      → WriteJudged t image undo block b 1
-  write-wrong-size w = judged 1 (λ e. omega arith) (holds w)
-
-  -- the lent buffers are of their sizes
-  pub record WriteSized : Type 0 where
-    pub image-whole : length image ≡ imageBytes
-    pub undo-whole : length undo ≡ undoBytes (t .setting)
-    pub block-whole : length block ≡ blockBytes
-
-  module _ (w : WriteSized) where
-    sizes : (WrongSize imageBytes image ⊎ (WrongSize (undoBytes (t .setting)) undo ⊎ WrongSize blockBytes block)) → ⊥
-    sizes = ⊎-elim (λ n. n (w .image-whole)) (⊎-elim (λ n. n (w .undo-whole)) (λ n. n (w .block-whole)))
-
-    pub write-unsound : (Sound t → ⊥) → WriteJudged t image undo block b 2
-    write-unsound n = judged 2 (λ e. omega arith) (passes sizes (holds n))
-
-    pub write-no-block : Sound t → blocks ≤ b → WriteJudged t image undo block b 3
-    write-no-block s l = judged 3 (λ e. omega arith) (passes sizes (passes (λ n. n s) (holds l)))
-
-    pub write-flies : Sound t → b < blocks → Flies (t .slots) b → WriteJudged t image undo block b 11
-    write-flies s l f = judged 11 (λ e. omega arith) (passes sizes (passes (λ n. n s) (passes (λ m. omega arith) (holds f))))
-
-    pub write-none-waits : Sound t → b < blocks → (Flies (t .slots) b → ⊥) → (Waits (t .slots) b → ⊥)
-        → WriteJudged t image undo block b 12
-    write-none-waits s l f n = judged 12 (λ e. omega arith) (passes sizes (passes (λ n. n s) (passes (λ m. omega arith) (passes f (holds n)))))
-
-  pub write-refused : (k : ℕ) → (k ≡ 0 → ⊥) → WriteJudged t image undo block b k → Writes t image undo block b (writeRefused t image undo block k)
-  write-refused k d j = refuses k (j .refused d) refl d
-
   module _ (r : WriteReady t image undo block b) where
     -- past the early refusals only 13 is left
     late : {k : ℕ} → First (case 13 (OnlyEmpty (t .slots) b) ∷ []) k → First (writeCases t image undo block b) k
     late f =
-        passes (sizes (record { image-whole = r .image-whole; undo-whole = r .undo-whole; block-whole = r .block-whole }))
+        passes (⊎-elim (λ n. n (r .image-whole)) (⊎-elim (λ n. n (r .undo-whole)) (λ n. n (r .block-whole))))
         (passes (λ n. n (r .sound)) (passes (λ m. omega (arith, r .is-block)) (passes (r .none-flies) (passes (λ n. n (r .some-wait)) f))))
 
     pub write-only-empty : Largest (t .slots) b 0 → Writes t image undo block b (writeRefused t image undo block 13)

@@ -1,3 +1,3 @@
--- The code's table as the rules have it, and what its private functions judge.
+-- The code's table as the rules have it, and what its private functions take and make.
 pub mod Seen
-pub mod Judged
+pub mod Taking

@@ -3,48 +3,34 @@
 ghost use Prim.Native.Nat.{_+_, _≤_, _<_};
 ghost use lib.ListN.{length};
 ghost use mathlib.Core.Path.{_≡_};
-ghost use Rattle.ground.specs.Decides.{Decides};
 ghost use Rattle.rules.specs.Sizes.{slots, blockStart, mostBytes};
 ghost use Rattle.spans.specs.Spans.{splice};
-ghost use Rattle.rules.specs.Table.{Sound};
 ghost use Rattle.rules.specs.Create.{changeOf, patch};
 ghost use Rattle.rules.specs.Calls.{Creates};
 ghost use Rattle.cache.specs.Seen.{seen, creation};
-ghost use Rattle.cache.specs.Judged.{CreateJudged, Joined, Taking, keptAt, withPatch};
+ghost use Rattle.cache.specs.Taking.{Joined, Taking, keptAt, withPatch};
 use crate::types::Created;
 use crate::types::Table;
 use accept::accepted::accepted;
 use accept::accepted::joined;
 use accept::entry::entry_for;
-use accept::named::unissued;
 use accept::types::Entry;
 use accept::types::Holding;
 use befores::added;
 use befores::befores;
+use early::create::create_refusal;
 use rules::CreateAnswer;
 use rules::Hold;
 use rules::Slot;
 use rules::State;
-use rules::refusals::BUFFER_SIZE;
-use rules::refusals::DATA_LENGTH;
-use rules::refusals::MANY_NAMES;
-use rules::refusals::NEVER_ISSUED;
-use rules::refusals::NO_BLOCK;
 use rules::refusals::NO_NUMBER;
 use rules::refusals::NO_ROOM;
 use rules::refusals::NO_SLOT;
-use rules::refusals::NOT_SOUND;
-use rules::refusals::PAST_THE_END;
 use rules::sizes::BLOCK_BYTES;
-use rules::sizes::IMAGE_BYTES;
-use rules::sizes::LAST_BLOCK;
 use rules::sizes::LAST_NEXT;
 use rules::sizes::LAST_SLOT;
-use rules::sizes::MOST_BYTES;
-use rules::sizes::MOST_NAMED;
 use rules::sizes::ROOM_BYTES;
 use rules::sizes::SLOTS;
-use slots::setting::undo_bytes;
 use sound::judge::judge;
 
 // The old bytes of a soft patch's range, n from place `at`, into the first bytes of its room.
@@ -71,53 +57,6 @@ fn put(image: &mut [u8], at: usize, bytes: &[u8])
 }
 
 impl Table {
-    // The first of the refusals 1 to 7 that holds, or 0; `sound` says whether the table is. No sum is
-    // formed before its parts are bounded.
-    fn create_refusal(
-        self,
-        image: &[u8],
-        undo: &[u8],
-        block: u32,
-        offset: u32,
-        bytes: &[u8],
-        named: &[u32],
-        sound: bool,
-    ) -> u32
-        requires { ⌜ Decides (Sound (seen self)) sound ⌝ }
-        ensures { λ r. ⌜ CreateJudged (seen self) (now (image .entry)) (now (undo .entry))
-            (changeOf block offset (now (bytes .entry)) (now (named .entry))) r ⌝ }
-    {
-        if image.len() != IMAGE_BYTES {
-            return BUFFER_SIZE;
-        }
-        let setting = self.setting;
-        if undo.len() != undo_bytes(setting) {
-            return BUFFER_SIZE;
-        }
-        if !sound {
-            return NOT_SOUND;
-        }
-        if LAST_BLOCK < block {
-            return NO_BLOCK;
-        }
-        if bytes.len() == 0 {
-            return DATA_LENGTH;
-        }
-        if MOST_BYTES < bytes.len() {
-            return DATA_LENGTH;
-        }
-        if BLOCK_BYTES - bytes.len() < offset as usize {
-            return PAST_THE_END;
-        }
-        if MOST_NAMED < named.len() {
-            return MANY_NAMES;
-        }
-        if unissued(self.next, named) {
-            return NEVER_ISSUED;
-        }
-        0
-    }
-
     // The new patch: the number next, its block and range, waiting, with its befores.
     fn patch(self, block: u32, offset: u32, bytes: &[u8], named: &[u32], hold: Hold) -> Slot
         requires { ⌜ length (now bytes) ≤ mostBytes ⌝ }
@@ -234,7 +173,17 @@ impl Table {
         let setting = self.setting;
         let slots = self.slots;
         let verdict = judge(setting, self.first, self.next, slots);
-        let refusal = self.create_refusal(image, undo, block, offset, bytes, named, verdict.sound);
+        let refusal = create_refusal(
+            setting,
+            self.next,
+            image,
+            undo,
+            block,
+            offset,
+            bytes,
+            named,
+            verdict.sound,
+        );
         if refusal != 0 {
             return Created {
                 table: self,

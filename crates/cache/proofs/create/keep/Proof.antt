@@ -5,7 +5,7 @@ use native.Mathlib.Nat.{mul-comm}
 use borrow.Author.Needs.{needs}
 use denote.Ref.{now}
 use Rattle.spans.specs.Spans.{splice, part}
-use Rattle.cache.specs.Judged.{keptAt}
+use Rattle.cache.specs.Taking.{keptAt}
 use Rattle.cache.proofs.create.keep.Statement.{statement}
 use Rattle.cache.proofs.create.keep.Tie as tie
 

@@ -15,7 +15,8 @@ use Rattle.accept.specs.declared.types.Entry.the-variants as entry
 use Rattle.accept.specs.Asked.{Means}
 use Rattle.accept.proofs.FreeRooms.{enters-means}
 use Rattle.cache.specs.Seen.{seen}
-use Rattle.cache.proofs.Accepted.{create-refused, create-joined}
+use Rattle.cache.proofs.Early.{create-refused, create-ready}
+use Rattle.cache.proofs.Accepted.{create-joined}
 use Rattle.cache.proofs.types.Table.create.Statement.{statement}
 use Rattle.cache.proofs.types.Table.create.Tie as tie
 
@@ -40,7 +41,7 @@ judge-requires : tie.Need-judge-requires
 judge-requires c κs = search needs
 
 create-refusal-requires : tie.Need-create-refusal-requires
-create-refusal-requires c κs = c .before .before .judge .ensures .decides
+create-refusal-requires c κs = search needs
 
 same-length : tie.Need-same-length
 same-length c = search needs
@@ -49,12 +50,20 @@ same-length-2 : tie.Need-same-length-2
 same-length-2 c = search needs
 
 returns : tie.Need-returns
-returns c = create-refused _ _ _ _ (c .before .create-refusal .result) (c .if1 .taken) (c .before .create-refusal .ensures)
+returns c =
+    let e = c .before in
+    let s = start e in
+    create-refused (seen (s .args .self)) (at-judged e .judge .result .sound) (at-judged e .judge .ensures .decides) (now (s .args .image))
+    (now (s .args .undo)) (change s) (e .create-refusal .result) (c .if1 .taken) (e .create-refusal .ensures)
 
 -- where nothing was refused early
 ready-here : (c : tie.Else1)
     → let s = start (c .before) in CreateReady (seen (s .args .self)) (now (s .args .image)) (now (s .args .undo)) (change s)
-ready-here c = c .before .create-refusal .ensures .ready (c .if1 .left)
+ready-here c =
+    let e = c .before in
+    let s = start e in
+    create-ready (seen (s .args .self)) (at-judged e .judge .result .sound) (at-judged e .judge .ensures .decides) (now (s .args .image))
+    (now (s .args .undo)) (change s) (c .if1 .left) (e .create-refusal .ensures)
 
 -- what the verdict on the table says besides, where the table is sound
 where-true : {b : Bool} {m n : ℕ} → b ≡ true → m ≡ cond b n 0 → m ≡ n

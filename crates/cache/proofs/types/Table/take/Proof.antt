@@ -16,7 +16,7 @@ use Rattle.rules.specs.Table.{used}
 use Rattle.rules.specs.Create.{Change, changeOf, FreeSlot, HoldOf, accepted}
 use Rattle.accept.specs.Asked.{HeldAs}
 use Rattle.cache.specs.Seen.{seen}
-use Rattle.cache.specs.Judged.{Taking, withPatch}
+use Rattle.cache.specs.Taking.{Taking, withPatch}
 use Rattle.cache.proofs.Accepted.{create-no-number, create-no-slot, create-no-room, create-granted, image-made, undo-made}
 use Rattle.cache.proofs.types.Table.take.Statement.{statement}
 use Rattle.cache.proofs.types.Table.take.Tie as tie

@@ -12,7 +12,8 @@ use Rattle.slots.specs.Walks.{PatchesOn}
 use Rattle.send.proofs.Handed.{handed-out}
 use Rattle.cache.specs.Seen.{seen}
 use Rattle.rules.specs.Passed.{WriteReady}
-use Rattle.cache.proofs.Sent.{write-refused, write-only-empty, write-granted}
+use Rattle.cache.proofs.Early.{write-refused, write-ready}
+use Rattle.cache.proofs.Sent.{write-only-empty, write-granted}
 use Rattle.cache.proofs.types.Table.write.Statement.{statement}
 use Rattle.cache.proofs.types.Table.write.Tie as tie
 
@@ -21,33 +22,43 @@ abbrev at-read : tie.After-write-refusal → tie.After-patches-on
 at-read c = c .before .before
 
 abbrev start : tie.After-write-refusal → tie.Start
-start c = at-read c .before .before .before .before .before
+start c = at-read c .before .before .before .before .before .before
 
 abbrev at-handed : tie.After-with-slots → tie.After-hand-out
 at-handed c = c .before .before .before .before
+
+is-sound-requires : tie.Need-is-sound-requires
+is-sound-requires c κs = search needs
 
 patches-on-requires : tie.Need-patches-on-requires
 patches-on-requires c κs = search needs
 
 write-refusal-requires : tie.Need-write-refusal-requires
-write-refusal-requires c κs = c .before .patches-on .ensures
+write-refusal-requires c κs = search needs
 
 same-length : tie.Need-same-length
 same-length c = search needs
 
 returns : tie.Need-returns
 returns c =
-    let a = start (c .before) .args in
-    write-refused (seen (a .self)) (now (a .image)) (now (a .undo)) (now (a .handed)) (a .block) (c .before .write-refusal .result) (c .if1 .taken)
-    (c .before .write-refusal .ensures)
-
--- where nothing was refused early
-ready-here : (c : tie.Else1) → let a = start (c .before) .args in WriteReady (seen (a .self)) (now (a .image)) (now (a .undo)) (now (a .handed)) (a .block)
-ready-here c = c .before .write-refusal .ensures .ready (c .if1 .left)
+    let e = c .before in
+    let a = start e .args in
+    let sound = at-read e .before .is-sound in
+    write-refused (seen (a .self)) (sound .result) (sound .ensures) (a .block) (at-read e .patches-on .ensures) (now (a .image)) (now (a .undo))
+    (now (a .handed)) (e .write-refusal .result) (c .if1 .taken) (e .write-refusal .ensures)
 
 -- the sets of the block
 on-here : (c : tie.Else1) → let a = start (c .before) .args in PatchesOn (a .self .slots) (a .block) (at-read (c .before) .patches-on .result)
 on-here c = at-read (c .before) .patches-on .ensures
+
+-- where nothing was refused early
+ready-here : (c : tie.Else1) → let a = start (c .before) .args in WriteReady (seen (a .self)) (now (a .image)) (now (a .undo)) (now (a .handed)) (a .block)
+ready-here c =
+    let e = c .before in
+    let a = start e .args in
+    let sound = at-read e .before .is-sound in
+    write-ready (seen (a .self)) (sound .result) (sound .ensures) (a .block) (on-here c) (now (a .image)) (now (a .undo)) (now (a .handed))
+    (c .if1 .left) (e .write-refusal .ensures)
 
 -- the set that goes is the largest
 largest-here : (c : tie.After-largest) → let a = start (c .before .before) .args in Largest (a .self .slots) (a .block) (c .largest .result)
@@ -101,6 +112,7 @@ pub write-spec : {M : Type 1} → statement M
 write-spec =
     tie.close
     (tie.spec
+    is-sound-requires
     patches-on-requires
     write-refusal-requires
     same-length

@@ -1,6 +1,6 @@
 // The named numbers, lent as a slice: whether all were issued.
 ghost use Rattle.ground.specs.Decides.{Decides};
-ghost use Rattle.accept.specs.Asked.{Unissued};
+ghost use Rattle.early.specs.Early.{Unissued};
 use slots::number::is_issued;
 
 // Whether one of the numbers was never issued.

@@ -1,4 +1,4 @@
--- Inside this crate, need not be believed: what create and write know once their first refusals are judged. Private functions judge them; no public
+-- Inside this crate, need not be believed: what create's private functions are given once its early refusals are judged, and what they make. No public
 -- promise cites this file.
 use Prim.Native.Nat.{ℕ, _+_}
 use mathlib.Core.Path.{_≡_}
@@ -11,22 +11,13 @@ use Rattle.masks.specs.Sets.{setOf}
 use Rattle.rules.specs.Sizes.{roomStart}
 use Rattle.rules.specs.Table.{Table, used, withSlots, withNext}
 use Rattle.rules.specs.Create.{Change, acceptedSlots}
-use Rattle.rules.specs.Refusals.{Case, First, TakesSlot, createCases, writeCases}
+use Rattle.rules.specs.Refusals.{TakesSlot}
 use Rattle.rules.specs.Calls.{createJoined}
-use Rattle.rules.specs.Passed.{CreateReady, WriteReady}
+use Rattle.rules.specs.Passed.{CreateReady}
 use Rattle.accept.specs.declared.types.Holding.{Holding}
 use Rattle.accept.specs.Asked.{HeldAs}
 use Rattle.cache.specs.declared.types.Created.{Created}
 use Rattle.cache.specs.Seen.{creation}
-
--- k is 0 and the call is ready to go on, or it is the first of the call's cases that holds
-pub record Judged (cases : List Case) (Ready : Type 0) (k : ℕ) : Type 0 where
-  pub refused : (k ≡ 0 → ⊥) → First cases k
-  pub ready : k ≡ 0 → Ready
-
--- the refusals 1 to 7 of a create are judged
-abbrev pub CreateJudged : Table → List ℕ → List ℕ → Change → ℕ → Type 0
-CreateJudged t image undo c = Judged (createCases t image undo c) (CreateReady t image undo c)
 
 -- none of 1 to 7 holds of a create, and it takes a slot, hard or soft as h says; `in-use` are the slots in use
 pub record Taking (t : Table) (image undo : List ℕ) (c : Change) (in-use : ℕ) (h : Holding) : Type 0 where
@@ -38,10 +29,6 @@ pub record Taking (t : Table) (image undo : List ℕ) (c : Change) (in-use : ℕ
 -- r and the image afterwards are what comes of a change that joins the patch of slot j, whatever the undo area holds
 abbrev pub Joined : Table → List ℕ → Change → ℕ → Created → List ℕ → Type 0
 Joined t image c j r image′ = (undo : List ℕ) → creation r image′ undo ≡ createJoined t image undo c j
-
--- the refusals 1 to 12 of a write are judged
-abbrev pub WriteJudged : Table → List ℕ → List ℕ → List ℕ → ℕ → ℕ → Type 0
-WriteJudged t image undo block b = Judged (writeCases t image undo block b) (WriteReady t image undo block b)
 
 -- the undo area once the n old bytes of the image from place `at` are kept, where the patch is soft
 abbrev pub keptAt : List ℕ → List ℕ → ℕ → ℕ → Hold → List ℕ

@@ -1,4 +1,4 @@
--- `accept::named::unissued` meets its contract. The loop's invariant: each of the numbers passed was issued. Assumes nothing.
+-- `early::named::unissued` meets its contract. The loop's invariant: each of the numbers passed was issued. Assumes nothing.
 use Prim.Native.Nat.{ℕ, _≤_, _<_, _-_}
 use mathlib.Core.Path.{subst}
 use native.Mathlib.Omega.{arith}
@@ -9,8 +9,8 @@ use Rattle.ground.proofs.Decided.{yes-not, no-not}
 use Rattle.rules.specs.Table.{Issued}
 use Rattle.slots.proofs.Members.{at-in, in-at}
 use borrow.Author.Needs.{needs}
-use Rattle.accept.proofs.named.unissued.Statement.{statement}
-use Rattle.accept.proofs.named.unissued.Tie as tie
+use Rattle.early.proofs.named.unissued.Statement.{statement}
+use Rattle.early.proofs.named.unissued.Tie as tie
 
 abbrev Inv-loop : tie.InvT-loop
 Inv-loop next numbers k₀ k = (k ≤ length numbers) × ((j : ℕ) → j < k → Issued next (getD numbers j 0))

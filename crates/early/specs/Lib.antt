@@ -1,0 +1,2 @@
+-- What create and write refuse early, as lists of cases.
+pub mod Early
