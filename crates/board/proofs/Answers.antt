@@ -25,13 +25,11 @@ use Rattle.rules.specs.Ask.{askWord}
 use Rattle.rules.specs.Refusals.{First, WrongSize}
 use Rattle.rules.specs.Calls.{plainNumber, Opening, Opens, createNumber, hardOrSoft, Creation, Accepts, Creates, writeNumber, Writing, Writes}
 use Rattle.rules.specs.Calls.{Completion, Completes, askNumber, Asks, countNumber, counted, Counts}
-use Rattle.rules.specs.Joint.{Joint, CompletesWrites, secondSet}
-use Rattle.rules.proofs.Joint.{joint-tried}
 use Rattle.rules.proofs.Rooms.{rooms-most}
 use Rattle.layout.specs.Layout.{tableBytes, IsTable, tableIn, bytesOf}
 use Rattle.board.specs.Calls.{tableAfter, noTableCases, OpenCall, holdNumber, CreateEnd, createEnd, createNone, CreateCall}
 use Rattle.board.specs.Calls.{WriteEnd, writeEnd, writeNone, WriteCall, CompleteCall, AskCall, CountCall}
-use Rattle.board.specs.Calls.{secondAs, JointEnd, jointEnd, jointNone, JointCall}
+use Rattle.board.specs.Calls.{jointNone, JointCall}
 
 -- ---- open
 
@@ -214,31 +212,3 @@ module _ {table image undo handed : List ℕ} {b : ℕ} {t : Table} (o : Writing
 
 pub joint-none : (table image undo handed : List ℕ) (x y : ℕ) → (IsTable table → ⊥) → JointCall table image undo handed x y (jointNone table image undo handed)
 joint-none table image undo handed x y d = record { is-table = λ i. absurd (d i); no-table = λ e. refl }
-
-module _ {table image undo handed : List ℕ} {x y : ℕ} {t : Table} (o : Joint) (i : IsTable table) (e : t ≡ tableIn table)
-    (h : CompletesWrites t image undo handed x y o) {s n : ℕ} (said : s ≡ secondAs (o .second)) (sent : n ≡ secondSet (o .second)) where
-  -- what the call leaves, the completion's number and the table written out
-  abbrev joint-left : ℕ → List ℕ → JointEnd
-  joint-left k after = record { first = k; second = s; set = n; table = after; image = o .image; undo = o .undo; handed = o .block }
-
-  joint-end : (a : Answer) {after : List ℕ} → o .first ≡ a → after ≡ tableAfter (plainNumber a) table (o .table)
-      → JointCall table image undo handed x y (joint-left (plainNumber a) after)
-  joint-end a {after} p q = record {
-    is-table = λ d. (o, subst (λ (u : Table). CompletesWrites u image undo handed x y o) e h, whole);
-    no-table = λ d. absurd (d i);
-  }
-    where
-      whole : joint-left (plainNumber a) after ≡ jointEnd table o
-      whole = rw (p, said, sent, q)
-
-  pub joint-granted-here : {after : List ℕ} → o .first ≡ plain.Granted → after ≡ bytesOf (o .table)
-      → JointCall table image undo handed x y (joint-left 0 after)
-  joint-granted-here p q = joint-end plain.Granted p q
-
-  pub joint-refused-here : (k : ℕ) → o .first ≡ plain.Refused k → JointCall table image undo handed x y (joint-left k table)
-  joint-refused-here k p = joint-end (plain.Refused k) p (rw (ne-eqb k 0 not-zero))
-    where
-      not-zero : k ≡ 0 → ⊥
-      not-zero z =
-          let w = ap (λ (u : Joint). u .first) (joint-tried h (ap plainNumber p ∙ z) .2) in
-          let c : _≡_ {A = ℕ} 0 1 = cc in omega arith

@@ -12,8 +12,8 @@ use Rattle.rules.specs.Calls.{plainNumber, writeNumber, Writing, Writes, Comple
 use Rattle.rules.specs.Joint.{Joint, CompletesWrites, jointStopped, jointWent, tried, secondNumber, secondSet}
 use Rattle.rules.proofs.Joint.{tried-number, tried-set, joint-refused, joint-tried, second-most}
 use Rattle.layout.specs.Layout.{IsTable, tableIn, bytesOf}
-use Rattle.board.specs.Calls.{tableAfter, writeEnd, notTried, secondAs, JointEnd, jointEnd, JointCall}
-use Rattle.board.specs.Joint.{endStopped, TwoCalls}
+use Rattle.board.specs.Calls.{tableAfter, WriteEnd, writeEnd, WriteCall, CompleteCall, notTried, secondAs, JointEnd, jointEnd, JointCall}
+use Rattle.board.specs.Joint.{endStopped, endWent, TwoCalls}
 use Rattle.board.proofs.Answers.{complete-none}
 use Rattle.board.proofs.Kept.{Bytes, complete-kept}
 use Rattle.board.proofs.OneAnswer.{table-or-not}
@@ -38,6 +38,12 @@ left c w q = elim (ℕ-discrete (writeNumber (w .answer)) 0) [
   | no d ↦ ap (λ (v : Writing). bytesOf (v .table)) (q .refusal d) ∙ sym (unwritten (writeNumber (w .answer)) (bytesOf (c .table)) (w .table) d)
 ]
 
+-- two ends with the same parts
+same : {f f′ s s′ n n′ : ℕ} {a a′ image undo handed : List ℕ} → f ≡ f′ → s ≡ s′ → n ≡ n′ → a ≡ a′
+    → _≡_ {A = JointEnd} (record { first = f; second = s; set = n; table = a; image = image; undo = undo; handed = handed })
+    (record { first = f′; second = s′; set = n′; table = a′; image = image; undo = undo; handed = handed })
+same a b c d = rw (a, b, c, d)
+
 module _ {table image undo handed : List ℕ} {x y : ℕ} where
   stopped : (c : Completion) → IsTable table → Completes (tableIn table) x c → (plainNumber (c .answer) ≡ 0 → ⊥)
       → TwoCalls table image undo handed x y (jointEnd table (jointStopped c image undo handed))
@@ -59,11 +65,6 @@ module _ {table image undo handed : List ℕ} {x y : ℕ} where
         no-table = λ d. absurd (d (back .1));
       })
       (same z (tried-as (w .answer)) (tried-set (w .answer)) (written (plainNumber (c .answer)) table (w .table) z ∙ left c w q))
-    where
-      same : {f f′ s s′ n n′ : ℕ} {a a′ : List ℕ} → f ≡ f′ → s ≡ s′ → n ≡ n′ → a ≡ a′
-          → _≡_ {A = JointEnd} (record { first = f; second = s; set = n; table = a; image = w .image; undo = w .undo; handed = w .block })
-          (record { first = f′; second = s′; set = n′; table = a′; image = w .image; undo = w .undo; handed = w .block })
-      same a b c d = rw (a, b, c, d)
 
   pub joint-two-calls : {e : JointEnd} → Bytes table → JointCall table image undo handed x y e → TwoCalls table image undo handed x y e
   joint-two-calls {e} bytes call = by (table-or-not table)
@@ -100,3 +101,54 @@ says-not-tried {table} {image} {undo} {handed} {x} {y} {e} call = by (table-or-n
     by : Dec (IsTable table) → SaysNotTried e
     by (yes i) = let q = call .is-table i in subst SaysNotTried (sym (q .2)) (of (q .0) (q .1))
     by (no n) = subst SaysNotTried (sym (call .no-table n)) (record { refused = λ d. (refl, refl); tried = λ z. absurd (omega (arith, z)) })
+
+-- ---- and made of the two calls, it is the joint call
+
+module _ {table between : List ℕ} {x k : ℕ} (i : IsTable table) (call : CompleteCall table x k between) where
+  -- the completion that was made on the table
+  abbrev its : (c : Completion) × Completes (tableIn table) x c × (k ≡ plainNumber (c .answer))
+      × (between ≡ tableAfter (plainNumber (c .answer)) table (c .table))
+  its = call .is-table i
+
+  pub joint-refused-here : {image undo handed : List ℕ} {y : ℕ} → (k ≡ 0 → ⊥)
+      → JointCall table image undo handed x y (endStopped between image undo handed k)
+  joint-refused-here {image} {undo} {handed} {y} n =
+      let c = its .0 in
+      record {
+        is-table = λ d. (
+          jointStopped c image undo handed,
+          CompletesWrites.stops c (its .1) (λ z. n (its .2 ∙ z)) refl,
+          same (its .2) refl refl (its .3),
+        );
+        no-table = λ d. absurd (d i);
+      }
+
+  module _ (bytes : Bytes table) (z : k ≡ 0) where
+    granted : plainNumber (its .0 .answer) ≡ 0
+    granted = sym (its .2) ∙ z
+
+    is-next : between ≡ bytesOf (its .0 .table)
+    is-next = its .3 ∙ written (plainNumber (its .0 .answer)) table (its .0 .table) granted
+
+    -- the bytes between the two calls are a table again
+    pub table-between : IsTable between
+    table-between = subst IsTable (sym is-next) (complete-kept table bytes x (its .0) (its .1) granted .1)
+
+    pub joint-granted-here : {image undo handed : List ℕ} {y : ℕ} (w : WriteEnd) → WriteCall between image undo handed y w
+        → JointCall table image undo handed x y (endWent w)
+    joint-granted-here {image} {undo} {handed} {y} w wrote =
+        let c = its .0 in
+        let made = wrote .is-table table-between in
+        let o = made .0 in
+        let back : tableIn between ≡ c .table = ap tableIn is-next ∙ complete-kept table bytes x c (its .1) granted .0 in
+        let q = subst (λ (t : Table). Writes t image undo handed y o) back (made .1) in
+        let stored = ap (λ (b : List ℕ). tableAfter (writeNumber (o .answer)) b (o .table)) is-next ∙ sym (left c o q)
+        ∙ sym (written (plainNumber (c .answer)) table (o .table) granted) in
+        record {
+          is-table = λ d. (
+            jointWent c o,
+            CompletesWrites.goes-on c (its .1) granted o q refl,
+            ap endWent (made .2) ∙ same (sym granted) (sym (tried-as (o .answer))) (sym (tried-set (o .answer))) stored,
+          );
+          no-table = λ d. absurd (d i);
+        }

@@ -5,8 +5,8 @@ ghost use mathlib.Core.Path.{_≡_};
 ghost use mathlib.Core.Option.{some};
 ghost use Rattle.rules.specs.Create.{changeOf};
 ghost use Rattle.board.specs.Calls.{OpenCall, CreateCall, WriteCall, CompleteCall, JointCall, AskCall, CountCall};
-ghost use Rattle.board.specs.Calls.{holdNumber, secondAs};
-ghost use Rattle.rules.specs.Joint.{secondSet};
+ghost use Rattle.board.specs.Calls.{holdNumber};
+ghost use Rattle.layout.specs.Layout.{IsTable};
 use cache::types::Table;
 use layout::from_bytes::is_table;
 use layout::from_bytes::table_in;
@@ -17,7 +17,6 @@ use rules::AskAnswer;
 use rules::CountAnswer;
 use rules::CreateAnswer;
 use rules::Hold;
-use rules::SecondAnswer;
 use rules::Setting;
 use rules::WriteAnswer;
 use rules::refusals::BUFFER_SIZE;
@@ -102,6 +101,41 @@ pub extern "C" fn board_create(
     }
 }
 
+// A write on bytes that are a table.
+fn write_table(
+    table: &mut [u8],
+    image: &[u8],
+    undo: &[u8],
+    handed: &mut [u8],
+    block: u32,
+    set: &mut u64,
+) -> u32
+    requires { ⌜ IsTable (now table) ⌝ }
+    ensures { λ r. ⌜ WriteCall (now (table .entry)) (now (image .entry)) (now (undo .entry)) (now (handed .entry)) block
+        (record {
+          refusal = r;
+          set = now (set .exit);
+          table = now (table .exit);
+          image = now (image .exit);
+          undo = now (undo .exit);
+          handed = now (handed .exit);
+        }) ⌝ }
+{
+    *set = 0;
+    let came = table_in(table);
+    let o = came.write(image, undo, handed, block);
+    let answer = o.answer;
+    match answer {
+        WriteAnswer::Granted(s) => {
+            let sent = o.table;
+            store(table, sent);
+            *set = s;
+            0
+        }
+        WriteAnswer::Refused(k) => k,
+    }
+}
+
 #[no_mangle]
 pub extern "C" fn board_write(
     table: &mut [u8],
@@ -134,27 +168,14 @@ pub extern "C" fn board_write(
         }
         return NOT_SOUND;
     }
-    let came = table_in(table);
-    let o = came.write(image, undo, handed, block);
-    let answer = o.answer;
-    match answer {
-        WriteAnswer::Granted(s) => {
-            let sent = o.table;
-            store(table, sent);
-            *set = s;
-            0
-        }
-        WriteAnswer::Refused(k) => k,
-    }
+    write_table(table, image, undo, handed, block, set)
 }
 
-#[no_mangle]
-pub extern "C" fn board_complete(table: &mut [u8], block: u32) -> u32
+// A completion on bytes that are a table.
+fn complete_table(table: &mut [u8], block: u32) -> u32
+    requires { ⌜ IsTable (now table) ⌝ }
     ensures { λ r. ⌜ CompleteCall (now (table .entry)) block r (now (table .exit)) ⌝ }
 {
-    if !is_table(table) {
-        return NOT_SOUND;
-    }
     let came = table_in(table);
     let o = came.complete(block);
     let answer = o.answer;
@@ -168,29 +189,21 @@ pub extern "C" fn board_complete(table: &mut [u8], block: u32) -> u32
     }
 }
 
+#[no_mangle]
+pub extern "C" fn board_complete(table: &mut [u8], block: u32) -> u32
+    ensures { λ r. ⌜ CompleteCall (now (table .entry)) block r (now (table .exit)) ⌝ }
+{
+    if !is_table(table) {
+        return NOT_SOUND;
+    }
+    complete_table(table, block)
+}
+
 // The second answer where completing was refused. No refusal has this number.
 const NOT_TRIED: u32 = 4294967295;
 
-fn second_number(a: SecondAnswer) -> u32
-    ensures { λ r. ⌜ r ≡ secondAs a ⌝ }
-{
-    match a {
-        SecondAnswer::Granted(_) => 0,
-        SecondAnswer::Refused(k) => k,
-        SecondAnswer::NotTried => NOT_TRIED,
-    }
-}
-
-fn second_set(a: SecondAnswer) -> u64
-    ensures { λ r. ⌜ r ≡ secondSet a ⌝ }
-{
-    match a {
-        SecondAnswer::Granted(s) => s,
-        SecondAnswer::Refused(_) => 0,
-        SecondAnswer::NotTried => 0,
-    }
-}
-
+// Not by the method of `cache` that is the joint call: with two callers each, its completion and its write would no
+// longer be made in place here, and every copy of the table between them takes stack.
 #[no_mangle]
 pub extern "C" fn board_complete_write(
     table: &mut [u8],
@@ -218,20 +231,12 @@ pub extern "C" fn board_complete_write(
     if !is_table(table) {
         return NOT_SOUND;
     }
-    let came = table_in(table);
-    let o = came.complete_write(image, undo, handed, x, y);
-    let answer = o.second;
-    *second = second_number(answer);
-    *set = second_set(answer);
-    let first = o.first;
-    match first {
-        Answer::Granted => {
-            let next = o.table;
-            store(table, next);
-            0
-        }
-        Answer::Refused(k) => k,
+    let first = complete_table(table, x);
+    if first != 0 {
+        return first;
     }
+    *second = write_table(table, image, undo, handed, y, set);
+    0
 }
 
 #[no_mangle]

@@ -1,32 +1,9 @@
 -- `calls::board_complete` meets its contract. Assumes nothing.
-use Prim.Native.Nat.{ℕ}
-use mathlib.Core.Path.{_≡_, _∙_}
-use denote.Ref.{now}
 use Rattle.ground.proofs.Decided.{yes-not, no-not}
-use Rattle.cache.specs.Seen.{seen, completion}
-use Rattle.layout.specs.Layout.{IsTable, tableIn}
-use Rattle.layout.proofs.Length.{read-whole, stored-whole}
-use Rattle.board.proofs.Answers.{complete-none, complete-granted-here, complete-refused-here}
+use Rattle.board.proofs.Answers.{complete-none}
 use borrow.Author.Needs.{needs}
 use Rattle.board.proofs.calls.board_complete.Statement.{statement}
 use Rattle.board.proofs.calls.board_complete.Tie as tie
-
--- The places: where the call starts, where the bytes have been found to be a table, where the call of `cache` is known to be granted, and where the
--- next table has been written; and the refusal, where it is one.
-abbrev start : tie.After-is-table → tie.Start
-start c = c .before .before .before
-
-abbrev at-table : tie.After-table-in → tie.Else1
-at-table c = c .before .before
-
-abbrev at-granted : tie.After-store → tie.After-enum-told
-at-granted c = c .before .before .before
-
-abbrev at-stored : tie.After-slice-known2 → tie.After-store
-at-stored c = c .before .before
-
-abbrev refusal : tie.After-answer → ℕ
-refusal c = c .answer .given .0 .0
 
 is-table-requires : tie.Need-is-table-requires
 is-table-requires c κs = search needs
@@ -34,52 +11,19 @@ is-table-requires c κs = search needs
 same-length : tie.Need-same-length
 same-length c = search needs
 
--- where the bytes have been found to be a table, and the table that is read
-table-here : (c : tie.After-table-in) → IsTable (now (start (at-table c .before) .args .table))
-table-here c = let e = at-table c in yes-not (e .before .is-table .result) (e .before .is-table .ensures) (e .if1 .left)
-
-seen-here : (c : tie.After-table-in) → seen (c .table-in .result) ≡ tableIn (now (start (at-table c .before) .args .table))
-seen-here c = c .table-in .ensures ∙ read-whole _ (table-here c .size)
-
 returns : tie.Need-returns
 returns c = complete-none _ _ (no-not (c .before .is-table .result) (c .before .is-table .ensures) (c .if1 .taken))
 
-table-in-requires : tie.Need-table-in-requires
-table-in-requires c κs = search needs
-
-complete-requires : tie.Need-complete-requires
-complete-requires c κs = search needs
-
-enum-told : tie.Need-enum-told
-enum-told c = search needs
-
-store-requires : tie.Need-store-requires
-store-requires c κs = search needs
-
-enum-known-answer : tie.Need-enum-known-answer
-enum-known-answer c = search needs
+complete-table-requires : tie.Need-complete-table-requires
+complete-table-requires c κs =
+    let e = c .before in
+    yes-not (e .before .is-table .result) (e .before .is-table .ensures) (e .if1 .left)
 
 same-length-2 : tie.Need-same-length-2
 same-length-2 c = search needs
 
 returns-2 : tie.Need-returns-2
-returns-2 c =
-    let w = at-stored c in
-    let g = at-granted w in
-    let r = g .before .before in
-    let i = table-here (r .before) in
-    complete-granted-here (completion (r .complete .result)) i (seen-here (r .before)) (r .complete .ensures) (g .enum-told .given .1)
-    (w .store .ensures ∙ stored-whole _ _ (i .size))
-
-same-length-3 : tie.Need-same-length-3
-same-length-3 c = search needs
-
-returns-3 : tie.Need-returns-3
-returns-3 c =
-    let k = c .before in
-    let r = k .before .before in
-    complete-refused-here (completion (r .complete .result)) (table-here (r .before)) (seen-here (r .before)) (r .complete .ensures) (refusal k)
-    (k .answer .given .1)
+returns-2 c = search needs
 
 pub board-complete-spec : {M : Type 1} → statement M
 board-complete-spec =
@@ -88,12 +32,6 @@ board-complete-spec =
     is-table-requires
     same-length
     returns
-    table-in-requires
-    complete-requires
-    enum-told
-    store-requires
-    enum-known-answer
+    complete-table-requires
     same-length-2
-    returns-2
-    same-length-3
-    returns-3)
+    returns-2)
