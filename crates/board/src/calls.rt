@@ -101,7 +101,8 @@ pub extern "C" fn board_create(
     }
 }
 
-// A write on bytes that are a table.
+// A write on bytes that are a table. Their length is tested for the compiler's sake, here and in
+// complete_table: where it knows the length, it makes one copy of the table less.
 fn write_table(
     table: &mut [u8],
     image: &[u8],
@@ -122,6 +123,9 @@ fn write_table(
         }) ⌝ }
 {
     *set = 0;
+    if table.len() != TABLE_BYTES {
+        return NOT_SOUND;
+    }
     let came = table_in(table);
     let o = came.write(image, undo, handed, block);
     let answer = o.answer;
@@ -176,6 +180,9 @@ fn complete_table(table: &mut [u8], block: u32) -> u32
     requires { ⌜ IsTable (now table) ⌝ }
     ensures { λ r. ⌜ CompleteCall (now (table .entry)) block r (now (table .exit)) ⌝ }
 {
+    if table.len() != TABLE_BYTES {
+        return NOT_SOUND;
+    }
     let came = table_in(table);
     let o = came.complete(block);
     let answer = o.answer;

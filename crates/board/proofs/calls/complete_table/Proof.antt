@@ -13,7 +13,7 @@ use Rattle.board.proofs.calls.complete_table.Tie as tie
 -- The places: where the call starts, where the call of `cache` is known to be granted, and where the next table has been written; and the refusal, where
 -- it is one.
 abbrev start : tie.After-table-in → tie.Start
-start c = c .before .before .before
+start c = c .before .before .before .before
 
 abbrev at-granted : tie.After-store → tie.After-enum-told
 at-granted c = c .before .before .before
@@ -30,6 +30,9 @@ table-here c = start c .pre
 
 seen-here : (c : tie.After-table-in) → seen (c .table-in .result) ≡ tableIn (now (start c .args .table))
 seen-here c = c .table-in .ensures ∙ read-whole _ (table-here c .size)
+
+returns : tie.Need-returns
+returns c = absurd (c .if1 .taken (c .before .before .pre .size))
 
 table-in-requires : tie.Need-table-in-requires
 table-in-requires c κs = search needs
@@ -49,8 +52,8 @@ enum-known-answer c = search needs
 same-length : tie.Need-same-length
 same-length c = search needs
 
-returns : tie.Need-returns
-returns c =
+returns-2 : tie.Need-returns-2
+returns-2 c =
     let w = at-stored c in
     let g = at-granted w in
     let r = g .before .before in
@@ -61,8 +64,8 @@ returns c =
 same-length-2 : tie.Need-same-length-2
 same-length-2 c = search needs
 
-returns-2 : tie.Need-returns-2
-returns-2 c =
+returns-3 : tie.Need-returns-3
+returns-3 c =
     let k = c .before in
     let r = k .before .before in
     complete-refused-here (completion (r .complete .result)) (table-here (r .before)) (seen-here (r .before)) (r .complete .ensures) (refusal k)
@@ -71,13 +74,13 @@ returns-2 c =
 pub complete-table-spec : {M : Type 1} → statement M
 complete-table-spec =
     tie.close
-    (tie.spec
+    (tie.spec returns
     table-in-requires
     complete-requires
     enum-told
     store-requires
     enum-known-answer
     same-length
-    returns
+    returns-2
     same-length-2
-    returns-2)
+    returns-3)

@@ -14,7 +14,7 @@ use Rattle.board.proofs.calls.write_table.Tie as tie
 -- The places: where the call starts, where the table has been read, where `cache` has made the writing, where it is known to be granted, and where the next
 -- table has been written.
 abbrev start : tie.After-table-in → tie.Start
-start c = c .before .before .before .before .before .before
+start c = c .before .before .before .before .before .before .before
 
 abbrev at-read : tie.After-write → tie.After-table-in
 at-read c = c .before .before
@@ -48,6 +48,9 @@ table-here c = start c .pre
 seen-here : (c : tie.After-table-in) → seen (c .table-in .result) ≡ tableIn (now (start c .args .table))
 seen-here c = c .table-in .ensures ∙ read-whole _ (table-here c .size)
 
+returns : tie.Need-returns
+returns c = absurd (c .if1 .taken (c .before .before .before .before .before .pre .size))
+
 table-in-requires : tie.Need-table-in-requires
 table-in-requires c κs = search needs
 
@@ -69,8 +72,8 @@ same-length c = search needs
 same-length-2 : tie.Need-same-length-2
 same-length-2 c = search needs
 
-returns : tie.Need-returns
-returns c =
+returns-2 : tie.Need-returns-2
+returns-2 c =
     let w = at-stored c in
     let g = at-granted w in
     let r = at-made (g .before .before) in
@@ -84,8 +87,8 @@ same-length-3 c = search needs
 same-length-4 : tie.Need-same-length-4
 same-length-4 c = search needs
 
-returns-2 : tie.Need-returns-2
-returns-2 c =
+returns-3 : tie.Need-returns-3
+returns-3 c =
     let k = c .before in
     let r = at-made (k .before .before) in
     write-refused-here (made r) (table-here (at-read r)) (seen-here (at-read r)) (r .write .ensures) (refusal k) (k .answer2 .given .1)
@@ -93,7 +96,7 @@ returns-2 c =
 pub write-table-spec : {M : Type 1} → statement M
 write-table-spec =
     tie.close
-    (tie.spec
+    (tie.spec returns
     table-in-requires
     write-requires
     enum-known-answer
@@ -101,7 +104,7 @@ write-table-spec =
     enum-known-answer-2
     same-length
     same-length-2
-    returns
+    returns-2
     same-length-3
     same-length-4
-    returns-2)
+    returns-3)
