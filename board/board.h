@@ -34,7 +34,7 @@
  * - Pass the bytes handed out to the store as they are, a block whole or not at all. Every write that was granted is to be passed
  *   on, and its completion told with board_complete or board_complete_write, but not before the bytes are there: what was told is
  *   taken to be on the store.
- * - Stack: the calls took up to 13,320 bytes when it was read (create; docs/FIGURES.md has each). Keep more than that free.
+ * - Stack: the calls took up to 16,216 bytes when it was read (complete_write; docs/FIGURES.md has each). Keep more than that free.
  * - Pointers, as for any callee that takes a pointer with a length: not null, also where the length is 0 (any valid address will do),
  *   valid for the length, and aligned where they are to 32-bit or 64-bit numbers; tables and buffers of bytes may stand anywhere.
  *   No two of a call's pointers reach the same byte, unless both are to const. Two traps: `bytes` that lie in the image itself
