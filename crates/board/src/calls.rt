@@ -1,5 +1,6 @@
 // The seven exported functions. Each reads the table from its bytes, calls the method of `cache` on
-// it and, granted, writes the next table back. Every call writes the numbers behind its pointers.
+// it and, granted, writes the next table back; the joint call does so twice. Every call writes the
+// numbers behind its pointers.
 ghost use Prim.Native.Nat.{_<_};
 ghost use mathlib.Core.Path.{_≡_};
 ghost use mathlib.Core.Option.{some};
