@@ -4,12 +4,14 @@ use mathlib.Core.Path.{_≡_}
 use mathlib.Core.Bool.{true}
 use mathlib.Core.List.{List, [], _∷_}
 use mathlib.Core.Option.{Option, none, some}
+use lib.ListN.{length}
+use Rattle.rules.specs.Sizes.{blockBytes}
 use Rattle.rules.specs.Calls.{plainNumber}
 use Rattle.rules.specs.Joint.{Joint, CompletesWrites, secondNumber}
 use Rattle.records.specs.Record.{Call}
 use Rattle.records.specs.Writer.{callsMade}
 use Rattle.trace.specs.declared.types.Phase.the-variants as phase
-use Rattle.trace.specs.Run.{Run, Step, inOrder, blank, Makes}
+use Rattle.trace.specs.Run.{Run, Step, inOrder, Makes}
 
 -- calls made one after the other, each in its order: the run after them, and the numbers that their lines say
 pub data MakesAll : Run → List Call → Run → List ℕ → Type 0 where
@@ -25,7 +27,7 @@ withSecond (some k) = k ∷ []
 abbrev pub numbersOf : Joint → List ℕ
 numbersOf o = plainNumber (o .first) ∷ withSecond (secondNumber (o .second))
 
--- what a replay comes to that is where the radio was, and lends a block as the radio did
+-- what a replay comes to that is where the radio was
 pub record JointReplays (r : Run) (x y : ℕ) (o : Joint) : Type 0 where
   pub run : Run
   pub made : MakesAll r (callsMade (plainNumber (o .first)) x y) run (numbersOf o)
@@ -34,4 +36,6 @@ pub record JointReplays (r : Run) (x y : ℕ) (o : Joint) : Type 0 where
   pub undo : run .undo ≡ o .undo
 
 pub record JointReplayed : Type 0 where
-  pub replays : (r : Run) (x y : ℕ) (o : Joint) → r .phase ≡ phase.Opened → CompletesWrites (r .table) (r .image) (r .undo) blank x y o → JointReplays r x y o
+  -- whatever the block of 256 bytes held that the radio lent
+  pub replays : (r : Run) (x y : ℕ) (lent : List ℕ) (o : Joint) → r .phase ≡ phase.Opened → length lent ≡ blockBytes
+      → CompletesWrites (r .table) (r .image) (r .undo) lent x y o → JointReplays r x y o
