@@ -3,14 +3,14 @@
 use rules::Hold;
 
 // Hard, or soft with its room; or it would be soft, and no room is free.
-#[derive(Drop)]
+#[derive(Clone, Copy)]
 pub enum Holding {
     Of(Hold),
     Full,
 }
 
 // The slot whose patch the change joins; or an entry of its own.
-#[derive(Drop)]
+#[derive(Clone, Copy)]
 pub enum Entry {
     Joins(usize),
     Own(Holding),

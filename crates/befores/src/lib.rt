@@ -1,5 +1,7 @@
 // The befores of a new patch: the slots of the named numbers, those whose bytes it shares and the hard
 // patches of its block. And the befores that a change adds to the patch which it joins.
+#![tactic(auto)]
+
 ghost use Rattle.std.specs.Prelude.{◌≡◌, ◌<◌, ◌^◌, []};
 ghost use Rattle.rules.specs.Create.{change_of, is_in, shares, befores, added};
 ghost use Rattle.befores.specs.OneSlot.{follows, elsewhere};

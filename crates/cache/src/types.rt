@@ -5,7 +5,7 @@ use rules::{Answer, CreateAnswer, SecondAnswer, Setting, Slot, WriteAnswer};
 
 // The setting that it was opened with, first and next number, and 64 slots. It sits in memory that
 // survives the radio's sleep, so every call takes it as input like the rest.
-#[derive(Drop)]
+#[derive(Clone, Copy)]
 pub struct Table {
     pub setting: Setting,
     pub first: u32,
@@ -13,31 +13,31 @@ pub struct Table {
     pub slots: [Slot; SLOTS],
 }
 
-#[derive(Drop)]
+#[derive(Clone, Copy)]
 pub struct Opened {
     pub table: Table,
     pub answer: Answer,
 }
 
-#[derive(Drop)]
+#[derive(Clone, Copy)]
 pub struct Created {
     pub table: Table,
     pub answer: CreateAnswer,
 }
 
-#[derive(Drop)]
+#[derive(Clone, Copy)]
 pub struct Written {
     pub table: Table,
     pub answer: WriteAnswer,
 }
 
-#[derive(Drop)]
+#[derive(Clone, Copy)]
 pub struct Completed {
     pub table: Table,
     pub answer: Answer,
 }
 
-#[derive(Drop)]
+#[derive(Clone, Copy)]
 pub struct CompletedWritten {
     pub table: Table,
     pub first: Answer,

@@ -1,4 +1,6 @@
 // How a line of the replay is spelled, into a buffer that the caller lends.
+#![tactic(auto)]
+
 mod number;
 mod text;
 pub mod types;

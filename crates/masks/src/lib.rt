@@ -1,6 +1,8 @@
 // Sets of slots as u64 masks: the operations that the calls use, each said of membership.
 // They take any number for a slot, so that none of them asks anything of its caller: a set has
 // no slot above 63.
+#![tactic(auto)]
+
 ghost use Rattle.std.specs.Prelude.{◌≡◌, ◌&&◌, ◌||◌, not, eqb};
 ghost use Rattle.masks.specs.Sets.{has, set_of, within, Meet};
 ghost use Rattle.masks.specs.Lowest.{LowestOr, Outside};

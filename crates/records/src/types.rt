@@ -1,14 +1,14 @@
 // What the writer and the reader answer. The types stand apart, so that the definitions can name them.
 
 // What the writer answers: the record's length, or a refusal number.
-#[derive(Drop)]
+#[derive(Clone, Copy)]
 pub enum Recorded {
     Length(usize),
     Refused(u32),
 }
 
 // A create as its record begins: how many numbers follow, and how many bytes of data after them.
-#[derive(Drop)]
+#[derive(Clone, Copy)]
 pub struct Head {
     pub block: u32,
     pub offset: u32,
@@ -17,7 +17,7 @@ pub struct Head {
 }
 
 // A record that is all there.
-#[derive(Drop)]
+#[derive(Clone, Copy)]
 pub enum Found {
     Open(u32),
     Create(Head),
@@ -28,7 +28,7 @@ pub enum Found {
 
 // What lent bytes begin with: a record; none yet, and how many bytes are still to come before more can
 // be said; or what no record begins with (16).
-#[derive(Drop)]
+#[derive(Clone, Copy)]
 pub enum Next {
     Record(Found),
     NoneYet(usize),

@@ -1,6 +1,8 @@
 // Runs a trace again (document 02, request c): reads records from standard input and writes a line for each
 // to standard output. It keeps one record's bytes and what `trace` keeps between records, however long the
 // input is. What a line says is proved in `trace`; here bytes are only moved.
+#![tactic(auto)]
+
 ghost use Rattle.std.specs.Prelude.{◌≤◌, length};
 
 use libc::{STDIN_FILENO, STDOUT_FILENO};
@@ -47,7 +49,7 @@ fn is_begun(phase: Phase) -> bool {
 }
 
 // What is kept after a record, and whether to go on.
-#[derive(Drop)]
+#[derive(Clone, Copy)]
 struct Turned {
     kept: Kept,
     goes_on: bool,

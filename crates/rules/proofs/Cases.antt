@@ -52,6 +52,8 @@ as_is a = as_well (λ x. x) (λ x. x) a
 alike : (l m : List Case) (k : ℕ) → AlikeOf l m → FirstOf l k → FirstOf m k
 unfolding FirstOf AlikeOf
 alike [] [] k a f = f
+alike [] (d ∷ m) k a f = elim a [ ]
+alike (c ∷ l) [] k a f = elim a [ ]
 alike (c ∷ l) (d ∷ m) k a (inl p) = inl (a.1 p.0, p.1 ∙ a.0)
 alike (c ∷ l) (d ∷ m) k a (inr p) = inr (λ h. p.0 (a.2 h), alike l m k a.3 p.1)
 

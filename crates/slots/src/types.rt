@@ -2,7 +2,7 @@
 // can name it.
 
 // Those that wait, those of them that are hard, and those in flight.
-#[derive(Drop)]
+#[derive(Clone, Copy)]
 pub struct Patches {
     pub waiting: u64,
     pub hard: u64,

@@ -3,7 +3,7 @@
 
 // Whether the table is sound, the slots in use and the rooms that are taken; no slot and no room where
 // it is not.
-#[derive(Drop)]
+#[derive(Clone, Copy)]
 pub struct Verdict {
     pub sound: bool,
     pub used: u64,

@@ -21,7 +21,7 @@ pub const INODE: u32 = 7;
 
 // The table after a change, the number that it was answered (0 where it was refused), and how many
 // were accepted so far, and how many of these hard.
-#[derive(Drop)]
+#[derive(Clone, Copy)]
 pub struct Run {
     pub table: Table,
     pub number: u32,

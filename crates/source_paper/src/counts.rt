@@ -43,7 +43,7 @@ pub fn entries(t: Table) -> u32 {
 }
 
 // What a write and, where it is granted, its completion leave, and how many were granted so far.
-#[derive(Drop)]
+#[derive(Clone, Copy)]
 pub struct Left {
     pub table: Table,
     pub writes: u32,

@@ -1,6 +1,8 @@
 // The source paper's own examples, run on the proved cache: figure 3, a file that grows by four
 // blocks, under each setting; and figure 2b, a circle between two blocks. What is printed stands
 // beside the paper's numbers in docs/FIGURES.md; `stdout` beside src/ is what it must be.
+#![tactic(auto)]
+
 mod append;
 mod changes;
 mod circle;

@@ -1,5 +1,7 @@
 // Bytes laid over bytes. One function copies: a change into the working image, old bytes into an
 // undo room, a block to be handed out, and old bytes back into it.
+#![tactic(auto)]
+
 ghost use Rattle.std.specs.Prelude.{◌≡◌, ◌-◌, min};
 ghost use Rattle.spans.specs.Spans.{splice, part};
 

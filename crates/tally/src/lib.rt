@@ -1,5 +1,7 @@
 // How many changes the patches of a table stand for, and how many of them a cut finds on the store;
 // specs/Counts.antt says what is counted. It stands apart from `trace`, which makes the calls.
+#![tactic(auto)]
+
 ghost use Rattle.std.specs.Prelude.{◌≡◌, cond, ◌&&◌, eqb};
 ghost use Rattle.masks.specs.Sets.{has as Sets·has};
 ghost use Rattle.rules.specs.Slots.{is_used, is_in_flight};

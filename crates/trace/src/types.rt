@@ -5,7 +5,7 @@ use lines::types::Line;
 use rules::sizes::SLOTS;
 
 // Before the open, after it, and after a cut or a bad record.
-#[derive(Drop)]
+#[derive(Clone, Copy)]
 pub enum Phase {
     Unopened,
     Opened,
@@ -14,7 +14,7 @@ pub enum Phase {
 
 // The place of the next record; for the patch of each slot, how many changes it stands for; and how many
 // changes have committed.
-#[derive(Drop)]
+#[derive(Clone, Copy)]
 pub struct Kept {
     pub phase: Phase,
     pub place: u64,
@@ -24,14 +24,14 @@ pub struct Kept {
 }
 
 // A record's call made: what is kept from then on, and its line.
-#[derive(Drop)]
+#[derive(Clone, Copy)]
 pub struct Made {
     pub kept: Kept,
     pub line: Line,
 }
 
 // What a step gives back beside the line's bytes: how many these are, and whether the record was bad.
-#[derive(Drop)]
+#[derive(Clone, Copy)]
 pub struct Stepped {
     pub kept: Kept,
     pub length: usize,

@@ -1,6 +1,8 @@
 // Document 01's examples, with the answers of document 02, requests a and b, run: the session of two pages, its
 // branch and the edges; then examples of joining, of old numbers and of the joint call. Each call's whole answer is a line on
 // standard output, to be read beside the papers; `stdout` beside src/ is what it must write.
+#![tactic(auto)]
+
 mod calls;
 mod edges;
 mod joins;

@@ -6,7 +6,7 @@ use rules::sizes::SLOTS;
 
 // The row of the paper's table that a line belongs to, or its opening, its branch, which of the edges,
 // which of the joins, which of the examples of old numbers, or one of the joint call.
-#[derive(Drop)]
+#[derive(Clone, Copy)]
 pub enum Row {
     Start,
     P(u32),

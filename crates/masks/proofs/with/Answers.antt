@@ -4,15 +4,13 @@ use mathlib.Core.Path.{◌≡◌, sym, ap, ◌∙◌}
 use mathlib.Core.Bool.{Bool, ◌||◌, or-false}
 use native.Mathlib.Nat.{one-mul}
 use native.Mathlib.Omega.{arith}
-use borrow.Author.Rules.{rules}
 use borrow.Author.Tests.{ne_eqb}
 use lib.Bits.{bit_or, or_lt}
 use lib.Dec.{eqb, lit<}
 use lib.Pow.{pow-lt, shl_exact}
 use Rattle.masks.specs.Sets.{has, set_of}
 use Rattle.masks.proofs.Laws.{is_set, has_or, has_pow}
-use Rattle.masks.proofs.with.Statement.{statement}
-use Rattle.masks.proofs.with.Tie as tie
+use Rattle.masks.proofs.with.Goals as goal
 
 or_is_with : (m i : ℕ) → m < 2 ^ 64 → i < 64 → bit_or m (2 ^ i) ≡ set_of (λ k. has m k || eqb k i)
 or_is_with m i l h =
@@ -22,17 +20,11 @@ or_is_with m i l h =
 past_is_with : (m i : ℕ) → m < 2 ^ 64 → 63 < i → m ≡ set_of (λ k. has m k || eqb k i)
 past_is_with m i l h = is_set m (λ k. has m k || eqb k i) l (λ k q. rw (ne_eqb k i (λ e. omega arith)) (sym (or-false (has m k))))
 
-returns : tie.Need-returns
-returns c = past_is_with c.before.args.set c.before.args.i c.before.ranges.set.fits c.if1.true
+pub returns-then-i-gt-LAST_SLOT : goal.returns-then-i-gt-LAST_SLOT
+returns-then-i-gt-LAST_SLOT c = past_is_with c.before.args.set c.before.args.i c.before.ranges.set.fits c.if-i-gt-LAST_SLOT.true
 
-shl-result : tie.Need-overflow-shl-result
-shl-result c = search rules
-
-returns-2 : tie.Need-returns-2
-returns-2 c =
+pub returns : goal.returns
+returns c =
     let h : c.before.args.i < 64 = omega arith in
     ap (bit_or c.before.args.set) (shl_exact {a = 1} 1 c.before.args.i 64 (lit< tt) (omega arith) ∙ one-mul (2 ^ c.before.args.i))
     ∙ or_is_with c.before.args.set c.before.args.i c.before.ranges.set.fits h
-
-pub with_spec : {M : Type 1} → statement M
-with_spec = tie.close (tie.spec returns shl-result returns-2)

@@ -8,8 +8,7 @@ use lib.Bits.{bit_and, and_le_l}
 use Rattle.masks.specs.Sets.{has, Sub, within}
 use Rattle.ground.proofs.Decided.{true_or_false}
 use Rattle.masks.proofs.Laws.{has_none, has_slot, no_member, has_without, within_sub, sub_within}
-use Rattle.masks.proofs.within.Statement.{statement}
-use Rattle.masks.proofs.within.Tie as tie
+use Rattle.masks.proofs.within.Goals as goal
 
 module _ (a b : ℕ) (la : a < 2 ^ 64) (lb : b < 2 ^ 64) where
   none_sub : bit_and a ((2 ^ 64 - 1) - b) ≡ 0 → Sub a b
@@ -22,20 +21,17 @@ module _ (a b : ℕ) (la : a < 2 ^ 64) (lb : b < 2 ^ 64) where
       no_member (bit_and a ((2 ^ 64 - 1) - b)) (omega (arith, and_le_l a ((2 ^ 64 - 1) - b)))
       (λ i l. has_without a b i lb l ∙ ⊎_elim (λ h. rw (f i h, h)) (λ h. rw h) (true_or_false (has a i)))
 
-returns : tie.Need-returns
-returns c =
+pub returns-then-a-b-eq0 : goal.returns-then-a-b-eq0
+returns-then-a-b-eq0 c =
     let start = c.before in
     let a = start.args.a in
     let b = start.args.b in
-    sym (sub_within a b (none_sub a b start.ranges.a.fits start.ranges.b.fits c.if1.true))
+    sym (sub_within a b (none_sub a b start.ranges.a.fits start.ranges.b.fits c.if-a-b-eq0.true))
 
-returns-2 : tie.Need-returns-2
-returns-2 c =
+pub returns-else-a-b-eq0 : goal.returns-else-a-b-eq0
+returns-else-a-b-eq0 c =
     let start = c.before in
     let a = start.args.a in
     let b = start.args.b in
     let la = start.ranges.a.fits in
-    ⊎_elim (λ e. absurd (c.if1.false (sub_none a b la start.ranges.b.fits (within_sub a b la e)))) sym (true_or_false (within a b))
-
-pub within_spec : {M : Type 1} → statement M
-within_spec = tie.close (tie.spec returns returns-2)
+    ⊎_elim (λ e. absurd (c.if-a-b-eq0.false (sub_none a b la start.ranges.b.fits (within_sub a b la e)))) sym (true_or_false (within a b))

@@ -1,0 +1,16 @@
+-- `masks::has` meets its contract: past slot 63 a mask has no digit, and below it `>>` and `&` read the digit. Assumes nothing.
+use Prim.Native.Nat.{ℕ}
+use mathlib.Core.Path.{sym, ap}
+use native.Mathlib.Omega.{arith}
+use lib.Dec.{eqb}
+use Rattle.masks.specs.Sets.{has}
+use Rattle.masks.proofs.Digits.{shr_bit}
+use Rattle.masks.proofs.Laws.{has_out}
+use Rattle.masks.proofs.has.Goals as goal
+
+pub returns-then-i-gt-LAST_SLOT : goal.returns-then-i-gt-LAST_SLOT
+returns-then-i-gt-LAST_SLOT c = sym (has_out c.before.args.set c.before.args.i c.before.ranges.set.fits (omega arith))
+
+pub returns : goal.returns
+unfolding has
+returns c = ap (λ (x : ℕ). eqb x 1) (shr_bit c.before.args.set c.before.args.i)
