@@ -5,7 +5,7 @@ use native.Mathlib.Decide.{dec_le}
 use mathlib.Core.Path.{◌≡◌, refl, sym, ◌∙◌, ap, ap₂, subst}
 use mathlib.Core.Bool.{Bool, true, false, ◌||◌}
 use mathlib.Core.List.Memᴰ
-use mathlib.Core.List.{List, ◌∷◌, ◌++◌, Memᴰ}
+use mathlib.Core.List.{List, [], ◌∷◌, ◌++◌, Memᴰ}
 use mathlib.Core.Logic.{◌⊎◌, inl, inr}
 use mathlib.Core.Option.{Option, some}
 use Rattle.ground.proofs.Decided.{true_or_l, true_or_r}
@@ -31,6 +31,7 @@ use Rattle.demands.proofs.Later.{landed_for_good}
 -- a write that is noted sent what it sent
 noted_sent : (n : ℕ) (ws : List Sent) (w : Sent) → Memᴰ w ws → is_in n w.numbers ≡ true → sent_in n ws ≡ true
 unfolding sent_in
+noted_sent n [] w m f = elim m [ ]
 noted_sent n (x ∷ ws) w (Memᴰ.head e) f = true_or_l (sent_in n ws) (ap (λ (y : Sent). is_in n y.numbers) (sym e) ∙ f)
 noted_sent n (x ∷ ws) w (Memᴰ.tail m) f = true_or_r (is_in n x.numbers) (noted_sent n ws w m f)
 

@@ -71,9 +71,9 @@ on_completed : (h : History) (x y : ℕ) (lent : List ℕ) (c : Completion) (w :
 unfolding after_complete
 on_completed h x y lent c w q = Call.writes y lent w q
 
-made_later : {h h' : History} {x y : ℕ} {lent : List ℕ} → CallsMade h x y lent h' → Later h h'
-made_later {h} {h'} {x} {y} {lent} (CallsMade.completion c p n) = Later.then Later.now (Call.completes x c p)
-made_later {h} {h'} {x} {y} {lent} (CallsMade.both c p z w q) =
+made_later : {h : History} {x y : ℕ} {lent : List ℕ} {h' : History} → CallsMade h x y lent h' → Later h h'
+made_later {h} {x} {y} {lent} {h'} (CallsMade.completion c p n) = Later.then Later.now (Call.completes x c p)
+made_later {h} {x} {y} {lent} {h'} (CallsMade.both c p z w q) =
     Later.then (Later.then Later.now (Call.completes x c p)) (on_completed h x y lent c w q)
 
 later_happened : {h h' : History} → Happened h → Later h h' → Happened h'

@@ -139,7 +139,7 @@ named_earlier (a ∷ l) y f (Memᴰ.tail m) n e = ⊎_elim inl (λ r. inr (r.0, 
 
 -- ---- the log of `cut`
 
-in_log : {l : List Accepted} (x : Accepted) → Memᴰ x l → Memᴰ (plain x) (map plain l)
+in_log : (x : Accepted) {l : List Accepted} → Memᴰ x l → Memᴰ (plain x) (map plain l)
 in_log x (Memᴰ.head q) = Memᴰ.head (ap plain q)
 in_log x (Memᴰ.tail m) = Memᴰ.tail (in_log x m)
 

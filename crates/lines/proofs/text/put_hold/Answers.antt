@@ -1,0 +1,27 @@
+-- `text::put_hold` meets its contract: each word is the one that the definition has. Assumes nothing.
+use mathlib.Core.Path.{◌≡◌, sym, ap}
+use mathlib.Core.List.{◌++◌}
+use native.Mathlib.Omega.{arith}
+use borrow.Author.Rules.{rules}
+use Rattle.rules.specs.declared.Hold.{Hold}
+use Rattle.lines.specs.Line.{space, hold_text}
+use Rattle.lines.proofs.Steps.{same_text}
+use Rattle.lines.proofs.text.put_hold.Goals as goal
+
+-- what is laid for the word that was told is laid for the one that came
+said : {v h : Hold} → v ≡ h → space ++ hold_text h ≡ space ++ hold_text v
+said e = sym (ap (λ (h : Hold). space ++ hold_text h) e)
+
+pub returns-in-Hard : goal.returns-in-Hard
+unfolding hold_text
+returns-in-Hard c =
+    let put = c.before.before in
+    let told = put.before.before.before in
+    (same_text put.put.ensures (said told.enum_told-1.given.1), omega (arith, put.put.ensures.next))
+
+pub returns-in-Soft : goal.returns-in-Soft
+unfolding hold_text
+returns-in-Soft c =
+    let put = c.before.before in
+    let told = put.before.before.before in
+    (same_text put.put-in-Soft.ensures (said told.enum_told-in-Soft-1.given.1), omega (arith, put.put-in-Soft.ensures.next))

@@ -1,0 +1,8 @@
+-- `from_bytes::four_at` meets its contract. Assumes nothing.
+use native.Mathlib.Omega.{arith}
+use Rattle.records.proofs.Numbers.{number_4}
+use borrow.Author.Rules.{rules}
+use Rattle.records.proofs.from_bytes.four_at.Goals as goal
+
+pub returns : goal.returns
+returns c = let a = c.before.before.before.args in omega (arith, number_4 a.bytes.now a.at)

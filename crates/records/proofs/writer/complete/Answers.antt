@@ -1,0 +1,11 @@
+-- `writer::complete` meets its contract. Assumes nothing.
+use mathlib.Core.Path.{refl}
+use Rattle.records.specs.Record.{completes, high_first, value_of, record_of}
+use borrow.Author.Rules.{rules}
+use Rattle.records.proofs.writer.complete.Goals as goal
+
+pub returns : goal.returns
+unfolding high_first value_of record_of
+returns c =
+    let put = c.before.before in
+    put.block_record.ensures (completes put.before.before.before.args.block) (record { bytes = refl; fits = λ l. l; fits_not = λ l. l })

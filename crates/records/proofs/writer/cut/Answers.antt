@@ -1,0 +1,20 @@
+-- `writer::cut` meets its contract: the head, and the value right after it. Assumes nothing.
+use mathlib.Core.Path.{refl}
+use native.Mathlib.Omega.{arith}
+use Rattle.spans.proofs.Laws.{laid}
+use Rattle.records.specs.Record.{cuts, high_first, value_of, record_of}
+use Rattle.records.proofs.Recorded.{wrong_size, is_recorded}
+use borrow.Author.Rules.{rules}
+use Rattle.records.proofs.writer.cut.Goals as goal
+
+pub returns-then-buffer-ne-RECORD_BYTES : goal.returns-then-buffer-ne-RECORD_BYTES
+returns-then-buffer-ne-RECORD_BYTES c = wrong_size (record_of (cuts _)) c.if-buffer-ne-RECORD_BYTES.true
+
+pub returns : goal.returns
+unfolding high_first value_of record_of
+returns c =
+    let value = c.before.before in
+    let head = value.before.before.before.before in
+    let e = head.before.before in
+    is_recorded (record_of (cuts _)) e.if-buffer-ne-RECORD_BYTES.false (omega (arith, e.before.before.ranges.landed.fits)) refl
+    (laid 3 _ (record { is = head.head.ensures }) value.put_eight.ensures refl).is

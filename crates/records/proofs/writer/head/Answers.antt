@@ -1,0 +1,13 @@
+-- `writer::head` meets its contract: the length right after the tag. Assumes nothing.
+use Rattle.spans.proofs.Laws.{laid}
+use Rattle.records.specs.Record.{high_first}
+use Rattle.records.proofs.Numbers.{length_1}
+use borrow.Author.Rules.{rules}
+use Rattle.records.proofs.writer.head.Goals as goal
+
+pub returns : goal.returns
+returns c =
+    let length-put = c.before.before in
+    let tag-put = length-put.before.before.before.before in
+    let a = tag-put.before.before.before.args in
+    (laid 1 (high_first 2 a.n) (record { is = tag-put.put_one.ensures }) length-put.put_two.ensures (length_1 a.tag)).is
