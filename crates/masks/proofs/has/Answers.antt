@@ -9,8 +9,8 @@ use Rattle.masks.proofs.Laws.{has_out}
 use Rattle.masks.proofs.has.Goals as goal
 
 pub returns-then-i-gt-LAST_SLOT : goal.returns-then-i-gt-LAST_SLOT
-returns-then-i-gt-LAST_SLOT c = sym (has_out c.before.args.set c.before.args.i c.before.ranges.set.fits (omega arith))
+returns-then-i-gt-LAST_SLOT c = sym (has_out c.args.set c.args.i c.ranges.set.fits (omega arith))
 
 pub returns : goal.returns
 unfolding has
-returns c = ap (λ (x : ℕ). eqb x 1) (shr_bit c.before.args.set c.before.args.i)
+returns c = ap (λ (x : ℕ). eqb x 1) (shr_bit c.args.set c.args.i)

@@ -5,25 +5,19 @@ use borrow.Author.Count.{below_none, below_more}
 use Rattle.ground.proofs.Decided.{clash}
 use Rattle.masks.proofs.Lowest.{found_lowest, nowhere_lowest}
 use Rattle.masks.proofs.lowest_outside.Goals as goal
-use Rattle.masks.proofs.lowest_outside.Goals.{After-has, In-loop-i}
-
--- the turn that a number is tested in
-abbrev turn : After-has → In-loop-i
-turn c = c.before
 
 pub loop-i-init : goal.loop-i-init
 loop-i-init c = (omega arith, below_none _)
 
 pub returns-then-not-has : goal.returns-then-not-has
 returns-then-not-has c =
-    let at = turn c.before in
-    found_lowest at.loop-i-test.true (sym c.before.has.ensures ∙ c.if-not-has.true) at.before.loop-i.invariant.1
+    found_lowest c.loop-i-test.true (sym c.has.ensures ∙ c.if-not-has.true) c.loop-i.invariant.1
 
 pub loop-i-preserved : goal.loop-i-preserved
 loop-i-preserved c = (
   omega arith,
-  below_more _ _ (turn c.before).before.loop-i.invariant.1 (clash (sym c.before.has.ensures ∙ c.if-not-has.false)),
+  below_more _ _ c.loop-i.invariant.1 (clash (sym c.has.ensures ∙ c.if-not-has.false)),
 )
 
 pub returns : goal.returns
-returns c = nowhere_lowest c.loop-i-test.false c.before.loop-i.invariant.1
+returns c = nowhere_lowest c.loop-i-test.false c.loop-i.invariant.1

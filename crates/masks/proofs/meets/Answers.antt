@@ -17,7 +17,7 @@ module _ (a b : ℕ) where
       let w = and-true (has a m.0) (has b m.0) (sym (has_and a b m.0) ∙ m.2) in (m.0, w.0, w.1)
 
 pub returns-then-a-b-eq0 : goal.returns-then-a-b-eq0
-returns-then-a-b-eq0 c = none_meet c.before.args.a c.before.args.b c.if-a-b-eq0.true
+returns-then-a-b-eq0 c = none_meet c.args.a c.args.b c.if-a-b-eq0.true
 
 pub returns-else-a-b-eq0 : goal.returns-else-a-b-eq0
-returns-else-a-b-eq0 c = some_meet c.before.args.a c.before.args.b c.before.ranges.a.fits c.before.ranges.b.fits c.if-a-b-eq0.false
+returns-else-a-b-eq0 c = some_meet c.args.a c.args.b c.ranges.a.fits c.ranges.b.fits c.if-a-b-eq0.false

@@ -21,10 +21,10 @@ past_is_with : (m i : ℕ) → m < 2 ^ 64 → 63 < i → m ≡ set_of (λ k. has
 past_is_with m i l h = is_set m (λ k. has m k || eqb k i) l (λ k q. rw (ne_eqb k i (λ e. omega arith)) (sym (or-false (has m k))))
 
 pub returns-then-i-gt-LAST_SLOT : goal.returns-then-i-gt-LAST_SLOT
-returns-then-i-gt-LAST_SLOT c = past_is_with c.before.args.set c.before.args.i c.before.ranges.set.fits c.if-i-gt-LAST_SLOT.true
+returns-then-i-gt-LAST_SLOT c = past_is_with c.args.set c.args.i c.ranges.set.fits c.if-i-gt-LAST_SLOT.true
 
 pub returns : goal.returns
 returns c =
-    let h : c.before.args.i < 64 = omega arith in
-    ap (bit_or c.before.args.set) (shl_exact {a = 1} 1 c.before.args.i 64 (lit< tt) (omega arith) ∙ one-mul (2 ^ c.before.args.i))
-    ∙ or_is_with c.before.args.set c.before.args.i c.before.ranges.set.fits h
+    let h : c.args.i < 64 = omega arith in
+    ap (bit_or c.args.set) (shl_exact {a = 1} 1 c.args.i 64 (lit< tt) (omega arith) ∙ one-mul (2 ^ c.args.i))
+    ∙ or_is_with c.args.set c.args.i c.ranges.set.fits h

@@ -23,15 +23,13 @@ module _ (a b : ℕ) (la : a < 2 ^ 64) (lb : b < 2 ^ 64) where
 
 pub returns-then-a-b-eq0 : goal.returns-then-a-b-eq0
 returns-then-a-b-eq0 c =
-    let start = c.before in
-    let a = start.args.a in
-    let b = start.args.b in
-    sym (sub_within a b (none_sub a b start.ranges.a.fits start.ranges.b.fits c.if-a-b-eq0.true))
+    let a = c.args.a in
+    let b = c.args.b in
+    sym (sub_within a b (none_sub a b c.ranges.a.fits c.ranges.b.fits c.if-a-b-eq0.true))
 
 pub returns-else-a-b-eq0 : goal.returns-else-a-b-eq0
 returns-else-a-b-eq0 c =
-    let start = c.before in
-    let a = start.args.a in
-    let b = start.args.b in
-    let la = start.ranges.a.fits in
-    ⊎_elim (λ e. absurd (c.if-a-b-eq0.false (sub_none a b la start.ranges.b.fits (within_sub a b la e)))) sym (true_or_false (within a b))
+    let a = c.args.a in
+    let b = c.args.b in
+    let la = c.ranges.a.fits in
+    ⊎_elim (λ e. absurd (c.if-a-b-eq0.false (sub_none a b la c.ranges.b.fits (within_sub a b la e)))) sym (true_or_false (within a b))

@@ -17,11 +17,11 @@ unfolding hold_text
 returns-in-Hard c =
     let put = c.before.before in
     let told = put.before.before.before in
-    (same_text put.put.ensures (said told.enum_told-1.given.1), omega (arith, put.put.ensures.next))
+    (same_text put.put.ensures (said told.in-Hard.is), omega (arith, put.put.ensures.next))
 
 pub returns-in-Soft : goal.returns-in-Soft
 unfolding hold_text
 returns-in-Soft c =
     let put = c.before.before in
     let told = put.before.before.before in
-    (same_text put.put-in-Soft.ensures (said told.enum_told-in-Soft-1.given.1), omega (arith, put.put-in-Soft.ensures.next))
+    (same_text put.put-in-Soft.ensures (said told.in-Soft.is), omega (arith, put.put-in-Soft.ensures.next))

@@ -17,7 +17,7 @@ pub returns-in-Nothing : goal.returns-in-Nothing
 unfolding more_text
 returns-in-Nothing c =
     let a = c.before.before.before.args in
-    let e = ap more_text c.enum_told-1.given.1 in
+    let e = ap more_text c.in-Nothing.is in
     (same_text (record { bytes = sym (splice_none a.out-1.now a.at); next = omega arith }) (sym e), omega arith)
 
 pub returns-in-Patches : goal.returns-in-Patches

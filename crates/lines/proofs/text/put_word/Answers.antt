@@ -17,39 +17,39 @@ unfolding word_text
 returns-in-Open c =
     let put = c.before.before in
     let told = put.before.before.before in
-    (same_text put.put.ensures (said told.enum_told-1.given.1), omega (arith, put.put.ensures.next))
+    (same_text put.put.ensures (said told.in-Open.is), omega (arith, put.put.ensures.next))
 
 pub returns-in-Create : goal.returns-in-Create
 unfolding word_text
 returns-in-Create c =
     let put = c.before.before in
     let told = put.before.before.before in
-    (same_text put.put-in-Create.ensures (said told.enum_told-in-Create-1.given.1), omega (arith, put.put-in-Create.ensures.next))
+    (same_text put.put-in-Create.ensures (said told.in-Create.is), omega (arith, put.put-in-Create.ensures.next))
 
 pub returns-in-Write : goal.returns-in-Write
 unfolding word_text
 returns-in-Write c =
     let put = c.before.before in
     let told = put.before.before.before in
-    (same_text put.put-in-Write.ensures (said told.enum_told-in-Write-1.given.1), omega (arith, put.put-in-Write.ensures.next))
+    (same_text put.put-in-Write.ensures (said told.in-Write.is), omega (arith, put.put-in-Write.ensures.next))
 
 pub returns-in-Complete : goal.returns-in-Complete
 unfolding word_text
 returns-in-Complete c =
     let put = c.before.before in
     let told = put.before.before.before in
-    (same_text put.put-in-Complete.ensures (said told.enum_told-in-Complete-1.given.1), omega (arith, put.put-in-Complete.ensures.next))
+    (same_text put.put-in-Complete.ensures (said told.in-Complete.is), omega (arith, put.put-in-Complete.ensures.next))
 
 pub returns-in-Cut : goal.returns-in-Cut
 unfolding word_text
 returns-in-Cut c =
     let put = c.before.before in
     let told = put.before.before.before in
-    (same_text put.put-in-Cut.ensures (said told.enum_told-in-Cut-1.given.1), omega (arith, put.put-in-Cut.ensures.next))
+    (same_text put.put-in-Cut.ensures (said told.in-Cut.is), omega (arith, put.put-in-Cut.ensures.next))
 
 pub returns-in-Bad : goal.returns-in-Bad
 unfolding word_text
 returns-in-Bad c =
     let put = c.before.before in
     let told = put.before.before.before in
-    (same_text put.put-in-Bad.ensures (said told.enum_told-in-Bad-1.given.1), omega (arith, put.put-in-Bad.ensures.next))
+    (same_text put.put-in-Bad.ensures (said told.in-Bad.is), omega (arith, put.put-in-Bad.ensures.next))

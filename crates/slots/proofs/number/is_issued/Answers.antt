@@ -9,4 +9,4 @@ pub returns-then-next-number : goal.returns-then-next-number
 returns-then-next-number c = λ i. let below = i.1 in let above = c.if-next-number.true in omega arith
 
 pub returns : goal.returns
-returns c = let some = c.before.if-number-eq0.false in let below = c.if-next-number.false in (omega arith, omega arith)
+returns c = let some = c.if-number-eq0.false in let below = c.if-next-number.false in (omega arith, omega arith)

@@ -1,25 +1,18 @@
 -- `slots::patches::patches_on` meets its contract. The loop's invariant: each set has the patches of the slots passed. Assumes nothing.
 use Prim.Native.Nat.{ℕ, ◌-◌, ◌≤◌}
-use mathlib.Core.Path.{◌≡◌, sym, ap, ◌∙◌}
-use mathlib.Core.Bool.{Bool, false, ◌&&◌, and-true, and-false}
+use mathlib.Core.Path.{◌≡◌}
 use mathlib.Core.List.{List}
-use native.Mathlib.Omega.{arith}
-use borrow.Author.Rules.{rules}
-use borrow.Author.Tests.{eq-eqb, ne_eqb}
-use lib.Dec.{eqb}
 use Rattle.masks.specs.Sets.{set_below}
-use Rattle.masks.proofs.Laws.{below_none, below_pass, with_if_below}
 use Rattle.rules.specs.declared.Slot.{Slot}
-use Rattle.rules.specs.Slots.{is_waiting, is_hard, is_in_flight}
-use Rattle.rules.specs.Table.{slot_at, waits_on, hard_on, flies_on}
+use Rattle.rules.specs.Table.{waits_on, hard_on, flies_on}
 use Rattle.slots.proofs.patches.patches_on.Given as goal
 
 -- the three sets have the patches of the slots below i
-record Passed (ss : List Slot) (b waiting hard flying i : ℕ) : Type 0 where
-  most : i ≤ 64
-  waits : waiting ≡ set_below (waits_on ss b) i
-  hards : hard ≡ set_below (hard_on ss b) i
-  flies : flying ≡ set_below (flies_on ss b) i
+pub record Passed (ss : List Slot) (b waiting hard flying i : ℕ) : Type 0 where
+  pub most : i ≤ 64
+  pub waits : waiting ≡ set_below (waits_on ss b) i
+  pub hards : hard ≡ set_below (hard_on ss b) i
+  pub flies : flying ≡ set_below (flies_on ss b) i
 
 abbrev pub invariant-loop-i : goal.invariant-loop-i
 invariant-loop-i l = Passed l.slots l.block l.waiting l.hard l.in_flight l.i

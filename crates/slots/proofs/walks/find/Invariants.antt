@@ -1,11 +1,5 @@
 -- `slots::walks::find` meets its contract. The loop's invariant: none of the slots passed is in use with the number. Assumes nothing.
 use Prim.Native.Nat.{ℕ, ◌≤◌, ◌<◌, ◌-◌}
-use mathlib.Core.Path.{sym, ◌∙◌}
-use mathlib.Core.Logic.{⊎_elim}
-use native.Mathlib.Omega.{arith}
-use borrow.Author.Count.{below_none, below_more}
-use borrow.Author.Rules.{rules}
-use Rattle.ground.proofs.Decided.{clash}
 use Rattle.slots.specs.Walks.{Carries}
 use Rattle.slots.proofs.walks.find.Given as goal
 

@@ -1,12 +1,8 @@
 -- `slots::walks::numbers_of` meets its contract. The loop's invariant: the numbers of the slots passed stand at their places. Assumes nothing.
 use Prim.Native.Nat.{ℕ, ◌-◌, ◌≤◌, ◌<◌}
-use mathlib.Core.Path.{◌≡◌, refl, ◌∙◌}
-use native.Mathlib.Omega.{arith}
-use borrow.Author.Count.{below_none}
-use lib.ListN.{length, get_or, length-set}
+use mathlib.Core.Path.{◌≡◌}
+use lib.ListN.{length, get_or}
 use Rattle.rules.specs.Table.{slot_at}
-use Rattle.slots.proofs.Listed.{put_below}
-use borrow.Author.Rules.{rules}
 use Rattle.slots.proofs.walks.numbers_of.Given as goal
 
 abbrev pub invariant-loop-i : goal.invariant-loop-i
