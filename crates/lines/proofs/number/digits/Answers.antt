@@ -11,13 +11,13 @@ pub loop-rest-init : goal.loop-rest-init
 loop-rest-init c = omega arith
 
 pub overflow_add-k : goal.overflow_add-k
-overflow_add-k c = let s = c.before.before in omega (arith, at_most_20 s.args.n s.ranges.n.fits)
+overflow_add-k c =omega (arith, at_most_20 c.args.n c.ranges.n.fits)
 
 pub loop-rest-smaller : goal.loop-rest-smaller
 loop-rest-smaller c = omega arith
 
 pub loop-rest-preserved : goal.loop-rest-preserved
-loop-rest-preserved c = omega (arith, length_more c.before.loop-rest.rest c.loop-rest-test.true)
+loop-rest-preserved c = omega (arith, length_more c.loop-rest.rest c.loop-rest-test.true)
 
 pub returns : goal.returns
-returns c = omega (arith, length_one c.before.loop-rest.rest c.loop-rest-test.false)
+returns c = omega (arith, length_one c.loop-rest.rest c.loop-rest-test.false)

@@ -12,15 +12,10 @@ use Rattle.lines.specs.Decimal.{decimal}
 use Rattle.lines.proofs.Digits.{at_most_20}
 use Rattle.lines.proofs.FromTheRight.{last_digits, all_digits, one_stored}
 use Rattle.lines.proofs.number.put.Goals as goal
-use Rattle.lines.proofs.number.put.Goals.{At-loop-i, Start}
-
--- where the function starts, seen from the loop
-abbrev start : At-loop-i → Start
-start c = c.before.before.before
 
 pub loop-i-init : goal.loop-i-init
 loop-i-init c =
-    let a = c.before.before.args in (
+    let a = c.args in (
       omega arith,
       refl,
       ap (λ (ys : List ℕ). splice a.out.now a.at ys) (rw c.digits-k.ensures (all_digits a.n)),
@@ -46,9 +41,8 @@ loop-i-smaller c = omega arith
 
 pub loop-i-preserved : goal.loop-i-preserved
 loop-i-preserved c =
-    let at = c.before in
-    let i = at.loop-i in
-    (omega arith, simp length-set (omega arith), one_stored i.out (start at).args.at i.i i.rest c.loop-i-test.true ∙ i.invariant.2)
+    let i = c.loop-i in
+    (omega arith, simp length-set (omega arith), one_stored i.out c.args.at i.i i.rest c.loop-i-test.true ∙ i.invariant.2)
 
 pub overflow_add-result : goal.overflow_add-result
 overflow_add-result c = omega arith
@@ -59,14 +53,13 @@ shape_of-out c = omega arith
 pub returns : goal.returns
 unfolding last_digits
 returns c =
-    let at = c.before in
-    let i = at.loop-i in
-    let a = (start at).args in
+    let i = c.loop-i in
+    let a = c.args in
     let none : 0 ≡ i.i = omega arith in
-    let k = at.before.digits-k.ensures in (
+    let k = c.digits-k.ensures in (
       record {
         bytes = sym (splice_none i.out a.at) ∙ ap (λ (j : ℕ). splice i.out a.at (last_digits j i.rest)) none ∙ i.invariant.2;
         next = ap (λ (j : ℕ). a.at + j) k;
       },
-      omega (arith, k, at_most_20 a.n (start at).ranges.n.fits),
+      omega (arith, k, at_most_20 a.n c.ranges.n.fits),
     )

@@ -9,6 +9,5 @@ use Rattle.lines.proofs.text.put.Goals as goal
 
 pub returns : goal.returns
 returns c =
-    let after = c.before.before in
-    let a = after.before.before.before.before.args in
-    record { bytes = after.copy.ensures ∙ ap (λ (ys : List ℕ). splice a.out-1.now a.at ys) (part_whole a.text.now); next = refl }
+    let a = c.args in
+    record { bytes = c.copy.ensures ∙ ap (λ (ys : List ℕ). splice a.out.now a.at ys) (part_whole a.text.now); next = refl }

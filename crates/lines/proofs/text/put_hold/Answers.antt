@@ -15,13 +15,9 @@ said e = sym (ap (λ (h : Hold). space ++ hold_text h) e)
 pub returns-in-Hard : goal.returns-in-Hard
 unfolding hold_text
 returns-in-Hard c =
-    let put = c.before.before in
-    let told = put.before.before.before in
-    (same_text put.put.ensures (said told.in-Hard.is), omega (arith, put.put.ensures.next))
+    (same_text c.put.ensures (said c.in-Hard.is), omega (arith, c.put.ensures.next))
 
 pub returns-in-Soft : goal.returns-in-Soft
 unfolding hold_text
 returns-in-Soft c =
-    let put = c.before.before in
-    let told = put.before.before.before in
-    (same_text put.put-in-Soft.ensures (said told.in-Soft.is), omega (arith, put.put-in-Soft.ensures.next))
+    (same_text c.put-in-Soft.ensures (said c.in-Soft.is), omega (arith, c.put-in-Soft.ensures.next))

@@ -10,30 +10,24 @@ use Rattle.lines.proofs.text.put_more.Goals as goal
 
 pub put_hold-requires : goal.put_hold-requires
 put_hold-requires c =
-    let count = c.before.before.before in
-    omega (arith, count.put_count-after_count.ensures.1, count.put_count-after_count.auto.0)
+    omega (arith, c.put_count-after_count.ensures.1, c.put_count-after_count.auto.0)
 
 pub returns-in-Nothing : goal.returns-in-Nothing
 unfolding more_text
 returns-in-Nothing c =
-    let a = c.before.before.before.args in
+    let a = c.args in
     let e = ap more_text c.in-Nothing.is in
-    (same_text (record { bytes = sym (splice_none a.out-1.now a.at); next = omega arith }) (sym e), omega arith)
+    (same_text (record { bytes = sym (splice_none a.out.now a.at); next = omega arith }) (sym e), omega arith)
 
 pub returns-in-Patches : goal.returns-in-Patches
 unfolding more_text
 returns-in-Patches c =
-    let count = c.before.before in
-    let told = count.before.before.before in
-    (same_text count.put_count.ensures.0 (sym (ap more_text told.more-1.given.1)), omega (arith, count.put_count.ensures.1))
+    (same_text c.put_count.ensures.0 (sym (ap more_text c.more-1.given.1)), omega (arith, c.put_count.ensures.1))
 
 pub returns-in-Patch : goal.returns-in-Patch
 unfolding more_text
 returns-in-Patch c =
-    let hold = c.before.before in
-    let count = hold.before.before.before.before in
-    let told = count.before.before.before in
-    let both = and_then count.put_count-after_count.ensures.0 hold.put_hold.ensures.0 in (
-      same_text both (sym (ap more_text told.more-in-Patch-1.given.1 ∙ simp append_assoc)),
-      omega (arith, count.put_count-after_count.ensures.1, hold.put_hold.ensures.1),
+    let both = and_then c.put_count-after_count.ensures.0 c.put_hold.ensures.0 in (
+      same_text both (sym (ap more_text c.more-in-Patch-1.given.1 ∙ simp append_assoc)),
+      omega (arith, c.put_count-after_count.ensures.1, c.put_hold.ensures.1),
     )

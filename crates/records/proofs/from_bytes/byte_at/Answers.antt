@@ -5,4 +5,4 @@ use borrow.Author.Rules.{rules}
 use Rattle.records.proofs.from_bytes.byte_at.Goals as goal
 
 pub returns : goal.returns
-returns c = let a = c.before.before.before.args in (omega (arith, number_1 a.bytes.now a.at, c.wide.ensures), omega (arith, c.wide.ensures))
+returns c = let a = c.args in (omega (arith, number_1 a.bytes.now a.at, c.wide.ensures), omega (arith, c.wide.ensures))

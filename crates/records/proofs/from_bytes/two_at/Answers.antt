@@ -5,4 +5,4 @@ use borrow.Author.Rules.{rules}
 use Rattle.records.proofs.from_bytes.two_at.Goals as goal
 
 pub returns : goal.returns
-returns c = let a = c.before.before.before.before.before.args in (omega (arith, number_2 a.bytes.now a.at), omega arith)
+returns c = let a = c.args in (omega (arith, number_2 a.bytes.now a.at), omega arith)

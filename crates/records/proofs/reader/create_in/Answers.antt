@@ -19,17 +19,15 @@ same_head p q = cc
 pub returns-then-n-names : goal.returns-then-n-names
 unfolding create_in
 returns-then-n-names c =
-    let a = c.before.before.before.args in
-    let names = c.before.byte_at-names.ensures in
+    let a = c.args in
+    let names = c.byte_at-names.ensures in
     let short = lt-ltb a.n (4 + 4 * number_at a.bytes.now 6 1) (omega (arith, names.0, c.if-n-names.true)) in
     rw short
 
 pub returns : goal.returns
 unfolding create_in
 returns c =
-    let second = c.before in
-    let first = second.before.before in
-    let a = first.before.before.args in
-    let names = first.byte_at-names.ensures.0 in
-    let long = le-ltb a.n (4 + 4 * number_at a.bytes.now 6 1) (omega (arith, names, second.before.if-n-names.false)) in
-    rw (long, ← names) (same_head second.byte_at.ensures.0 c.two_at.ensures.0)
+    let a = c.args in
+    let names = c.byte_at-names.ensures.0 in
+    let long = le-ltb a.n (4 + 4 * number_at a.bytes.now 6 1) (omega (arith, names, c.if-n-names.false)) in
+    rw (long, ← names) (same_head c.byte_at.ensures.0 c.two_at.ensures.0)

@@ -6,7 +6,7 @@ use Rattle.records.proofs.reader.is_formed.Goals as goal
 
 pub returns-then-n-lt-CREATE_BYTES : goal.returns-then-n-lt-CREATE_BYTES
 unfolding formed
-returns-then-n-lt-CREATE_BYTES c = rw (c.before.in-1.keys2, lt-leb 4 c.before.before.args.n c.if-n-lt-CREATE_BYTES.true)
+returns-then-n-lt-CREATE_BYTES c = rw (c.in-1.keys2, lt-leb 4 c.args.n c.if-n-lt-CREATE_BYTES.true)
 
 pub returns-in-1 : goal.returns-in-1
 unfolding formed
@@ -14,7 +14,7 @@ returns-in-1 c = rw c.in-1.keys1
 
 pub returns-else-n-lt-CREATE_BYTES : goal.returns-else-n-lt-CREATE_BYTES
 unfolding formed
-returns-else-n-lt-CREATE_BYTES c = rw (c.before.in-1.keys2, le-leb 4 c.before.before.args.n c.if-n-lt-CREATE_BYTES.false)
+returns-else-n-lt-CREATE_BYTES c = rw (c.in-1.keys2, le-leb 4 c.args.n c.if-n-lt-CREATE_BYTES.false)
 
 pub returns-in-3 : goal.returns-in-3
 unfolding formed
@@ -35,4 +35,4 @@ returns-in_default c =
     let past-3 = past-4.0 in
     let past-2 = past-3.0 in
     let past-1 = past-2.0 in
-    unknown c.before.args.n c.before.args.tag past-1.1 past-2.1 past-3.1 past-4.1 past-5.1
+    unknown c.args.n c.args.tag past-1.1 past-2.1 past-3.1 past-4.1 past-5.1

@@ -26,24 +26,23 @@ unfolding numbers_at
 loop-i-init c = (omega arith, omega (arith, c.numbers_there-m.ensures), omega (arith, c.numbers_there-m.ensures), refl)
 
 pub four_at-requires : goal.four_at-requires
-four_at-requires c = let i = c.before.loop-i.invariant in omega (arith, i.2, c.loop-i-test.true)
+four_at-requires c = let i = c.loop-i.invariant in omega (arith, i.2, c.loop-i-test.true)
 
 pub loop-i-preserved : goal.loop-i-preserved
 loop-i-preserved c =
-    let at = c.before.before in
-    let a = at.before.before.before.args in
-    let i = at.loop-i.invariant in (
+    let a = c.args in
+    let i = c.loop-i.invariant in (
       omega arith,
       i.1,
       i.2,
-      ap₂ (λ (ns : List ℕ) (x : ℕ). set ns at.loop-i.i x) i.3 c.four_at.ensures
-          ∙ one_more a.bytes.now at.loop-i.i (omega (arith, i.1, c.before.loop-i-test.true)),
+      ap₂ (λ (ns : List ℕ) (x : ℕ). set ns c.loop-i.i x) i.3 c.four_at.ensures
+          ∙ one_more a.bytes.now c.loop-i.i (omega (arith, i.1, c.loop-i-test.true)),
     )
 
 pub returns : goal.returns
 unfolding numbers_in
 returns c =
-    let i = c.before.loop-i in
-    let m = c.before.before.numbers_there-m in
+    let i = c.loop-i in
+    let m = c.numbers_there-m in
     let all : i.i ≡ m.result = omega (arith, i.invariant.0, c.loop-i-test.false) in
     i.invariant.3 ∙ rw (all, m.ensures)

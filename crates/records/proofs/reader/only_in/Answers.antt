@@ -10,19 +10,17 @@ use Rattle.records.proofs.reader.only_in.Goals as goal
 pub returns-then-have-lt-HEAD_BYTES : goal.returns-then-have-lt-HEAD_BYTES
 unfolding only_in next_in
 returns-then-have-lt-HEAD_BYTES c =
-    let w = c.before.before.args.bytes.now in
+    let w = c.args.bytes.now in
     rw (le-ltb (3 + number_at w 1 2) (length w) (omega (arith, c.if-have-lt-HEAD_BYTES.true)), lt-ltb (length w) 3 c.if-have-lt-HEAD_BYTES.true)
 
 pub returns-then-n-have : goal.returns-then-n-have
 unfolding only_in
 returns-then-n-have c =
-    let read = c.before in
-    let w = read.before.before.before.args.bytes.now in
-    rw (lt-ltb (3 + number_at w 1 2) (length w) (omega (arith, read.two_at-n.ensures.0, c.if-n-have.true)))
+    let w = c.args.bytes.now in
+    rw (lt-ltb (3 + number_at w 1 2) (length w) (omega (arith, c.two_at-n.ensures.0, c.if-n-have.true)))
 
 pub returns : goal.returns
 unfolding only_in
 returns c =
-    let read = c.before.before in
-    let w = read.before.before.before.args.bytes.now in
-    rw (le-ltb (3 + number_at w 1 2) (length w) (omega (arith, read.two_at-n.ensures.0, c.before.if-n-have.false)), c.next_in.ensures)
+    let w = c.args.bytes.now in
+    rw (le-ltb (3 + number_at w 1 2) (length w) (omega (arith, c.two_at-n.ensures.0, c.if-n-have.false)), c.next_in.ensures)

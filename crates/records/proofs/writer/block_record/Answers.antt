@@ -14,13 +14,11 @@ pub returns-then-buffer-ne-RECORD_BYTES : goal.returns-then-buffer-ne-RECORD_BYT
 returns-then-buffer-ne-RECORD_BYTES c = λ call o. wrong_size (record_of call) c.if-buffer-ne-RECORD_BYTES.true
 
 pub returns-then-block-gt255 : goal.returns-then-block-gt255
-returns-then-block-gt255 c = λ call o. no_fit (record_of call) c.before.if-buffer-ne-RECORD_BYTES.false (λ f. absurd (omega (arith, c.if-block-gt255.true, o.fits_not f)))
+returns-then-block-gt255 c = λ call o. no_fit (record_of call) c.if-buffer-ne-RECORD_BYTES.false (λ f. absurd (omega (arith, c.if-block-gt255.true, o.fits_not f)))
 
 pub returns : goal.returns
 unfolding high_first
 returns c = λ call o.
-    let put = c.before.before in
-    let e = put.before.before in
-    let a = e.before.before.before.args in
-    is_recorded (record_of call) e.before.if-buffer-ne-RECORD_BYTES.false (o.fits (omega (arith, e.if-block-gt255.false))) (sym (ap length o.bytes))
-    (put.put_block.ensures ∙ ap (λ (ys : List ℕ). splice a.buffer-1.now 0 ys) (sym o.bytes))
+    let a = c.args in
+    is_recorded (record_of call) c.if-buffer-ne-RECORD_BYTES.false (o.ranges (omega (arith, c.if-block-gt255.false))) (sym (ap length o.bytes))
+    (c.put_block.ensures ∙ ap (λ (ys : List ℕ). splice a.buffer.now 0 ys) (sym o.bytes))

@@ -11,36 +11,27 @@ use Rattle.records.proofs.writer.complete_write.Goals as goal
 
 pub returns-then-first-ne0 : goal.returns-then-first-ne0
 returns-then-first-ne0 c =
-    let m = c.before.before in
-    let e = m.before.before in
-    let a = e.before.before.args in
-    recorded_alone a.x a.y a.first e.if-first-ne0.true m.complete.ensures
+    let a = c.args in
+    recorded_alone a.x a.y a.first c.if-first-ne0.true c.complete.ensures
 
 pub returns-then-buffer-ne-RECORD_BYTES : goal.returns-then-buffer-ne-RECORD_BYTES
 returns-then-buffer-ne-RECORD_BYTES c = wrong_size _ c.if-buffer-ne-RECORD_BYTES.true
 
 pub returns-then-x-gt255 : goal.returns-then-x-gt255
 returns-then-x-gt255 c =
-    let e = c.before.before in
-    let a = e.before.before.args in
-    no_fit _ c.before.if-buffer-ne-RECORD_BYTES.false
-    (λ f. let l = (both_fit a.x a.y a.first e.if-first-ne0.false f).0 in absurd (omega (arith, c.if-x-gt255.true, l)))
+    let a = c.args in
+    no_fit _ c.if-buffer-ne-RECORD_BYTES.false
+    (λ f. let l = (both_fit a.x a.y a.first c.if-first-ne0.false f).0 in absurd (omega (arith, c.if-x-gt255.true, l)))
 
 pub returns-then-y-gt255 : goal.returns-then-y-gt255
 returns-then-y-gt255 c =
-    let e = c.before.before.before in
-    let a = e.before.before.args in
-    no_fit _ c.before.before.if-buffer-ne-RECORD_BYTES.false
-    (λ f. let l = (both_fit a.x a.y a.first e.if-first-ne0.false f).1 in absurd (omega (arith, c.if-y-gt255.true, l)))
+    let a = c.args in
+    no_fit _ c.if-buffer-ne-RECORD_BYTES.false
+    (λ f. let l = (both_fit a.x a.y a.first c.if-first-ne0.false f).1 in absurd (omega (arith, c.if-y-gt255.true, l)))
 
 pub returns : goal.returns
 unfolding high_first
 returns c =
-    let wrote = c.before.before in
-    let completed = wrote.before.before.before.before in
-    let fits-y = completed.before.before in
-    let fits-x = fits-y.before in
-    let e = fits-x.before.before in
-    let a = e.before.before.args in
-    recorded_both a.x a.y a.first e.if-first-ne0.false fits-x.before.if-buffer-ne-RECORD_BYTES.false (omega (arith, fits-x.if-x-gt255.false)) (omega (arith, fits-y.if-y-gt255.false))
-    (laid 4 (block_bytes 3 a.y) (record { is = completed.put_block.ensures }) wrote.put_block-2.ensures refl).is
+    let a = c.args in
+    recorded_both a.x a.y a.first c.if-first-ne0.false c.if-buffer-ne-RECORD_BYTES.false (omega (arith, c.if-x-gt255.false)) (omega (arith, c.if-y-gt255.false))
+    (laid 4 (block_bytes 3 a.y) (record { is = c.put_block.ensures }) c.put_block-2.ensures refl).is

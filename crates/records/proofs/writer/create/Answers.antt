@@ -1,6 +1,6 @@
 -- `writer::create` meets its contract. Assumes nothing.
 use native.Mathlib.Omega.{arith}
-use Rattle.ground.proofs.Decided.{yes_not, no_not}
+use Rattle.ground.proofs.Decided.{yes_not, no_not, no_of, yes_of}
 use Rattle.rules.specs.Create.{change_of}
 use Rattle.records.specs.Record.{creates, SizesFit, record_of}
 use Rattle.records.proofs.Values.{length_create}
@@ -18,7 +18,7 @@ at-fit c = c.before.before
 
 -- the sizes fit, where they have been judged
 sizes_here : (c : Else-not-sizes_fit) → SizesFit (change_of (start c).args.block (start c).args.offset (start c).args.bytes.now (start c).args.named.now)
-sizes_here c = yes_not c.before.sizes_fit.result c.before.sizes_fit.ensures c.if-not-sizes_fit.false
+sizes_here c = yes_of c.before.sizes_fit.result c.before.sizes_fit.ensures c.if-not-sizes_fit.false
 
 pub returns-then-buffer-ne-RECORD_BYTES : goal.returns-then-buffer-ne-RECORD_BYTES
 returns-then-buffer-ne-RECORD_BYTES c = wrong_size (record_of (creates _)) c.if-buffer-ne-RECORD_BYTES.true
@@ -26,7 +26,7 @@ returns-then-buffer-ne-RECORD_BYTES c = wrong_size (record_of (creates _)) c.if-
 pub returns-then-not-sizes_fit : goal.returns-then-not-sizes_fit
 returns-then-not-sizes_fit c =
     let f = c.before in
-    no_fit (record_of (creates _)) f.before.if-buffer-ne-RECORD_BYTES.false (λ w. no_not f.sizes_fit.result f.sizes_fit.ensures c.if-not-sizes_fit.true w.sizes)
+    no_fit (record_of (creates _)) f.before.if-buffer-ne-RECORD_BYTES.false (λ w. no_of f.sizes_fit.result f.sizes_fit.ensures c.if-not-sizes_fit.true w.sizes)
 
 pub put_create-requires : goal.put_create-requires
 put_create-requires c = (c.before.before.before.if-buffer-ne-RECORD_BYTES.false, sizes_here c.before)

@@ -7,7 +7,5 @@ use Rattle.records.proofs.writer.head.Goals as goal
 
 pub returns : goal.returns
 returns c =
-    let length-put = c.before.before in
-    let tag-put = length-put.before.before.before.before in
-    let a = tag-put.before.before.before.args in
-    (laid 1 (high_first 2 a.n) (record { is = tag-put.put_one.ensures }) length-put.put_two.ensures (length_1 a.tag)).is
+    let a = c.args in
+    (laid 1 (high_first 2 a.n) (record { is = c.put_one.ensures }) c.put_two.ensures (length_1 a.tag)).is

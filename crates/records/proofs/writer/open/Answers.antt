@@ -13,8 +13,5 @@ returns-then-buffer-ne-RECORD_BYTES c = wrong_size (record_of (opens _)) c.if-bu
 pub returns : goal.returns
 unfolding high_first value_of record_of
 returns c =
-    let value = c.before.before in
-    let head = value.before.before.before.before in
-    let e = head.before.before in
-    is_recorded (record_of (opens _)) e.if-buffer-ne-RECORD_BYTES.false (omega (arith, e.before.before.ranges.first.fits)) refl
-    (laid 3 _ (record { is = head.head.ensures }) value.put_four.ensures refl).is
+    is_recorded (record_of (opens _)) c.if-buffer-ne-RECORD_BYTES.false (omega (arith, c.ranges.first.fits)) refl
+    (laid 3 _ (record { is = c.head.ensures }) c.put_four.ensures refl).is

@@ -8,9 +8,6 @@ use Rattle.records.proofs.writer.put_block.Goals as goal
 pub returns : goal.returns
 unfolding high_first
 returns c =
-    let value = c.before.before in
-    let long = value.before.before.before.before in
-    let tag = long.before.before.before.before in
-    let a = tag.before.before.before.args in
-    (laid 3 (high_first 1 a.block) (laid 1 (high_first 2 1) (record { is = tag.put_one.ensures }) long.put_two.ensures refl)
-    value.put_one-2.ensures refl).is
+    let a = c.args in
+    (laid 3 (high_first 1 a.block) (laid 1 (high_first 2 1) (record { is = c.put_one.ensures }) c.put_two.ensures refl)
+    c.put_one-2.ensures refl).is

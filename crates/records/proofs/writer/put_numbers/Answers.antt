@@ -29,18 +29,17 @@ loop-i-init c = (omega arith, refl, none_laid _, refl)
 
 pub loop-i-preserved : goal.loop-i-preserved
 loop-i-preserved c =
-    let put = c.before.before in
-    let i = put.before.before.before.before.loop-i in
-    let a = put.before.before.before.before.before.before.before.args in (
+    let i = c.loop-i in
+    let a = c.args in (
       omega arith,
       refl,
-      put.put_four.ensures ∙ one_more a.buffer-1.now a.named.now i.buffer-1 i.i (omega arith) i.invariant.2,
-      ap length put.put_four.ensures ∙ length_splice _ _ _ ∙ i.invariant.3,
+      c.put_four.ensures ∙ one_more a.buffer.now a.named.now i.buffer i.i (omega arith) i.invariant.2,
+      ap length c.put_four.ensures ∙ length_splice _ _ _ ∙ i.invariant.3,
     )
 
 pub returns : goal.returns
 returns c =
-    let i = c.before.loop-i in
-    let named = c.before.before.before.before.args.named.now in
+    let i = c.loop-i in
+    let named = c.args.named.now in
     let all : i.i ≡ length named = omega arith in
     i.invariant.2 ∙ rw (all, take-length named)

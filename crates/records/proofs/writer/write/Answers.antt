@@ -7,5 +7,4 @@ use Rattle.records.proofs.writer.write.Goals as goal
 pub returns : goal.returns
 unfolding high_first value_of record_of
 returns c =
-    let put = c.before.before in
-    put.block_record.ensures (writes put.before.before.before.args.block) (record { bytes = refl; fits = λ l. l; fits_not = λ l. l })
+    c.block_record.ensures (writes c.args.block) (record { bytes = refl; fits = λ l. l; fits_not = λ l. l })

@@ -1,0 +1,36 @@
+-- `settle::complete::completed` meets its contract: a walk whose turn commits the slots of the set. Assumes nothing.
+use Prim.Native.Nat.{◌≤◌, ◌-◌}
+use mathlib.Core.Path.{◌≡◌, ap, ◌∙◌}
+use mathlib.Core.Bool.{Bool}
+use native.Mathlib.Omega.{arith}
+use borrow.Author.Rules.{rules}
+use lib.ListN.{length}
+use Rattle.masks.specs.Sets.{has}
+use Rattle.rules.specs.Sizes.{slots}
+use Rattle.rules.specs.Table.{slot_at}
+use Rattle.rules.specs.Complete.{landed_slot, landed_slots}
+use Rattle.slots.proofs.Walked.{Walked, walk_starts, walk_goes_on, walk_ends}
+use Rattle.settle.proofs.complete.completed.Goals as goal
+use Rattle.settle.proofs.complete.completed.Goals.{Start}
+
+-- where the function starts it is told that the array has its 64 slots
+abbrev all_there : (c : Start) → length c.args.slots ≡ slots
+all_there c = c.well_formed.0.1.0.1
+
+pub loop-i-init : goal.loop-i-init
+loop-i-init c = (omega arith, walk_starts (all_there c))
+
+pub loop-i-preserved : goal.loop-i-preserved
+loop-i-preserved c =
+    let asked = c.before in
+    let test = asked.before.before in
+    let at = test.before in
+    let s = slot_at at.loop-i.next at.loop-i.i in (
+      omega arith,
+      walk_goes_on at.loop-i.invariant.1 test.loop-i-test.true
+          (c.landed_slot-s.ensures ∙ ap (λ (commits : Bool). landed_slot at.before.args.landed commits s) asked.has.ensures),
+    )
+
+pub returns : goal.returns
+unfolding landed_slots
+returns c = walk_ends c.before.loop-i.invariant.1 c.loop-i-test.false

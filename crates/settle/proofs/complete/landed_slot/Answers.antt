@@ -1,0 +1,12 @@
+-- `settle::complete::landed_slot` meets its contract: each way out is a case of landedSlot. Assumes nothing.
+use Prim.Native.Nat.{ℕ}
+use mathlib.Core.Path.{sym, ap, ◌∙◌}
+use Rattle.rules.specs.Slots.{with_befores}
+use borrow.Author.Rules.{rules}
+use Rattle.settle.proofs.complete.landed_slot.Goals as goal
+
+pub returns-then-is_used : goal.returns-then-is_used
+returns-then-is_used c =
+    let s = c.args.s in
+    rw (c.if-commits.false, sym c.is_used.ensures ∙ c.if-is_used.true)
+    (c.with_befores.ensures ∙ ap (λ (m : ℕ). with_befores m s) c.without.ensures)

@@ -1,0 +1,43 @@
+-- `sound::judge::judge` meets its contract. The loop's invariant: each slot passed is sound alone and apart from those below it, and
+-- the sets and the marks have what the slots passed give. Assumes nothing.
+use Prim.Native.Nat.{ℕ, ◌≤◌, ◌<◌, ◌-◌}
+use mathlib.Core.Path.{◌≡◌, sym, ap, ◌∙◌, subst}
+use mathlib.Core.Bool.{true}
+use mathlib.Core.List.{List}
+use mathlib.Core.Logic.{⊎_elim}
+use native.Mathlib.Omega.{arith}
+use borrow.Author.Count.{below_none, below_more}
+use borrow.Author.Rules.{rules}
+use borrow.Author.Tests.{not-true, not-false}
+use lib.ListN.{length}
+use Rattle.masks.specs.Sets.{set_below}
+use Rattle.ground.proofs.Decided.{clash, yes_of, no_of, yes_not, no_not}
+use Rattle.masks.proofs.Laws as sets
+use Rattle.rules.specs.declared.Slot.{Slot}
+use Rattle.rules.specs.Table.{Sound, table_of, used, slot_at}
+use Rattle.sound.specs.SlotSound.{HeaderInRange, Alone, marked}
+use Rattle.rules.proofs.Rooms.{rooms_most}
+use Rattle.rules.proofs.Words.{room_is, has_room_used}
+use Rattle.sound.proofs.Gathered.{gathered, gathered_none, gathered_pass, gathered_more}
+use Rattle.sound.proofs.Rooms.{roomed, free_roomless, rooms_more, meets_shares, shares_meets}
+use Rattle.sound.proofs.Tested.{Tested, follows, NumberApart, sound_tested, sound_within, tested_sound, not_sound}
+use Rattle.sound.proofs.judge.judge.Given as goal
+
+-- the numbers of the slots below i are marked
+abbrev pub MarkedBelow : List Slot → ℕ → List ℕ → Type 0
+MarkedBelow ss i marks = (k : ℕ) → k < i → used ss k ≡ true → marked marks (slot_at ss k).number ≡ true
+
+pub record Passed (first next most : ℕ) (ss : List Slot) (marks : List ℕ) (taken in_use befores i : ℕ) : Type 0 where
+  pub within : i ≤ 64
+  pub size : length marks ≡ 16
+  pub rooms : taken ≡ gathered (roomed ss) i
+  pub uses : in_use ≡ set_below (used ss) i
+  pub befores_all : befores ≡ gathered (follows ss) i
+  pub marks_below : MarkedBelow ss i marks
+  pub tested : (k : ℕ) → k < i → Tested first next most ss k
+
+abbrev pub invariant-loop-i : goal.invariant-loop-i
+invariant-loop-i l = Passed l.first l.next l.most l.slots l.marks l.taken l.used l.befores l.i
+
+abbrev pub decreases-loop-i : goal.decreases-loop-i
+decreases-loop-i l = 64 - l.i

@@ -1,0 +1,6 @@
+-- `tally::lands` meets its contract: each state in turn. Assumes nothing.
+use borrow.Author.Rules.{rules}
+use Rattle.tally.proofs.lands.Goals as goal
+
+pub returns-in-InFlight : goal.returns-in-InFlight
+returns-in-InFlight c = rw c.in-InFlight.is c.has.ensures
