@@ -10,38 +10,37 @@ use Rattle.ground.proofs.Decided.{clash}
 use Rattle.send.specs.Back.{Best}
 use Rattle.send.proofs.Back.{best_stays, best_changes}
 use Rattle.send.proofs.hand_out.better.Goals as goal
-use Rattle.send.proofs.hand_out.better.Goals.{After-has, Else-not-has}
-
--- what the best so far is, and where slot i is known to be left behind
-best : (c : After-has) → let a = c.before.args in Best a.numbers.now a.left a.top a.i a.best
-best c = c.before.requires.1
-
-is-left : (c : Else-not-has) → let a = c.before.before.args in has a.left a.i ≡ true
-is-left c = sym c.before.has.ensures ∙ c.if-not-has.false
 
 pub returns-then-not-has : goal.returns-then-not-has
 returns-then-not-has c =
-    best_stays (best c.before) (λ e h. absurd (clash e (sym c.before.has.ensures ∙ c.if-not-has.true)))
+    let best : let a = c.args in Best a.numbers.now a.left a.top a.i a.best =
+        c.requires.1 in
+    best_stays best (λ e h. absurd (clash e (sym c.has.ensures ∙ c.if-not-has.true)))
 
 pub returns-then-top-n : goal.returns-then-top-n
-returns-then-top-n c = let at = c.before.before in best_stays (best at.before) (λ e h. absurd (omega arith))
+returns-then-top-n c =
+    let best : let a = c.args in Best a.numbers.now a.left a.top a.i a.best =
+        c.requires.1 in
+    best_stays best (λ e h. absurd (omega arith))
 
 pub returns-then-best-gt-LAST_SLOT : goal.returns-then-best-gt-LAST_SLOT
 returns-then-best-gt-LAST_SLOT c =
-    let test = c.before in
-    let at = test.before.before in
-    best_changes (best at.before) (omega arith) (is-left at) test.if-top-n.false (λ l. absurd (omega arith))
+    let best : let a = c.args in Best a.numbers.now a.left a.top a.i a.best =
+        c.requires.1 in
+    let is-left : let a = c.args in has a.left a.i ≡ true =
+        sym c.has.ensures ∙ c.if-not-has.false in
+    best_changes best (omega arith) is-left c.if-top-n.false (λ l. absurd (omega arith))
 
 pub returns-then-numbers-best : goal.returns-then-numbers-best
 returns-then-numbers-best c =
-    let test = c.before.before in
-    let number = test.before in
-    let at = number.before.before in
-    best_changes (best at.before) (omega arith) (is-left at) number.if-top-n.false (λ l. c.if-numbers-best.true)
+    let best : let a = c.args in Best a.numbers.now a.left a.top a.i a.best =
+        c.requires.1 in
+    let is-left : let a = c.args in has a.left a.i ≡ true =
+        sym c.has.ensures ∙ c.if-not-has.false in
+    best_changes best (omega arith) is-left c.if-top-n.false (λ l. c.if-numbers-best.true)
 
 pub returns-else-numbers-best : goal.returns-else-numbers-best
 returns-else-numbers-best c =
-    let test = c.before.before in
-    let number = test.before in
-    let at = number.before.before in
-    best_stays (best at.before) (λ e h. (omega arith, c.if-numbers-best.false))
+    let best : let a = c.args in Best a.numbers.now a.left a.top a.i a.best =
+        c.requires.1 in
+    best_stays best (λ e h. (omega arith, c.if-numbers-best.false))

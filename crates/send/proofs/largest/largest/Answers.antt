@@ -12,7 +12,6 @@ use Rattle.rules.specs.Rounds.{round, searched}
 use Rattle.rules.proofs.Rounds.{round_lt, round_sub, searched_settled, searched_round}
 use Rattle.send.proofs.Striking.{Walked, walk_starts, walk_passes, walk_strikes, walk_ends, walk_breaks}
 use Rattle.send.proofs.largest.largest.Goals as goal
-use Rattle.send.proofs.largest.largest.Goals.{Left-walk}
 
 pub loop-i-init : goal.loop-i-init
 loop-i-init c = (omega arith, refl)
@@ -22,15 +21,12 @@ walk-init c = (omega arith, walk_starts _ _ _ c.loop-i.invariant.0)
 
 pub walk-preserved : goal.walk-preserved
 walk-preserved c =
-    let test = c.before in
-    let at = test.before.before in
-    let began = at.before in
-    let i = at.walk.i in
-    let s = began.loop-i.began in
-    let ss = began.before.args.slots in
-    let hard = began.before.args.on.hard in
-    let w = at.walk.invariant.1 in
-    let here = sym test.has.ensures in (
+    let i = c.walk.i in
+    let s = c.loop-i.began in
+    let ss = c.args.slots in
+    let hard = c.args.on.hard in
+    let w = c.walk.invariant.1 in
+    let here = sym c.has.ensures in (
       omega arith,
       ⊎_elim
           (λ v. subst (Walked ss hard s (i + 1)) (sym v.8)
@@ -43,39 +39,45 @@ walk-preserved c =
           c.if-has.branch,
     )
 
--- the walk left, at its end or at a hard patch, has made a round
-made : (c : Left-walk)
-    → let began = c.before.before in c.walk-test.auto ≡ round began.before.args.slots began.before.args.on.hard began.loop-i.began
-made c =
-    let at = c.before in
-    let began = at.before in
-    let s = began.loop-i.began in
-    let ss = began.before.args.slots in
-    let hard = began.before.args.on.hard in
-    ⊎_elim
-    (λ w. w.1 ∙ walk_ends ss hard s (subst (λ (k : ℕ). Walked ss hard s k at.walk.auto) (omega arith) at.walk.invariant.1))
-    (λ w. w.8 ∙ walk_breaks ss hard s w.0.true (sym w.6.ensures ∙ w.7.true)
-    (rw (sym w.1.ensures ∙ w.2.true, sym w.4.ensures ∙ not-true _ w.5.true)))
-    c.walk-test.branch
-
 pub loop-i-smaller : goal.loop-i-smaller
 loop-i-smaller c =
-    let left = c.before in
-    let began = left.before.before in
-    let r = made left in
-    let s = began.loop-i.began in
-    rw r (size_less _ s (round_lt _ _ s) began.loop-i.invariant.0 (round_sub _ _ s) (λ e. c.if-kept-began.false (r ∙ e)))
+    let made : c.walk-test.auto ≡ round c.args.slots c.args.on.hard c.loop-i.began =
+            let s = c.loop-i.began in
+        let ss = c.args.slots in
+        let hard = c.args.on.hard in
+        ⊎_elim
+        (λ w. w.1 ∙ walk_ends ss hard s (subst (λ (k : ℕ). Walked ss hard s k c.walk.auto) (omega arith) c.walk.invariant.1))
+        (λ w. w.8 ∙ walk_breaks ss hard s w.0.true (sym w.6.ensures ∙ w.7.true)
+        (rw (sym w.1.ensures ∙ w.2.true, sym w.4.ensures ∙ not-true _ w.5.true)))
+        c.walk-test.branch in
+    let r = made in
+    let s = c.loop-i.began in
+    rw r (size_less _ s (round_lt _ _ s) c.loop-i.invariant.0 (round_sub _ _ s) (λ e. c.if-kept-began.false (r ∙ e)))
 
 pub loop-i-preserved : goal.loop-i-preserved
 loop-i-preserved c =
-    let left = c.before in
-    let began = left.before.before in
-    let s = began.loop-i.began in
-    rw (made left) (round_lt _ _ s, searched_round _ _ s began.loop-i.invariant.0 ∙ began.loop-i.invariant.1)
+    let made : c.walk-test.auto ≡ round c.args.slots c.args.on.hard c.loop-i.began =
+            let s = c.loop-i.began in
+        let ss = c.args.slots in
+        let hard = c.args.on.hard in
+        ⊎_elim
+        (λ w. w.1 ∙ walk_ends ss hard s (subst (λ (k : ℕ). Walked ss hard s k c.walk.auto) (omega arith) c.walk.invariant.1))
+        (λ w. w.8 ∙ walk_breaks ss hard s w.0.true (sym w.6.ensures ∙ w.7.true)
+        (rw (sym w.1.ensures ∙ w.2.true, sym w.4.ensures ∙ not-true _ w.5.true)))
+        c.walk-test.branch in
+    let s = c.loop-i.began in
+    rw made (round_lt _ _ s, searched_round _ _ s c.loop-i.invariant.0 ∙ c.loop-i.invariant.1)
 
 pub returns : goal.returns
 returns c =
-    let left = c.before in
-    let began = left.before.before in
-    let s = began.loop-i.began in
-    c.if-kept-began.true ∙ sym (searched_settled _ _ s (sym (made left) ∙ c.if-kept-began.true)) ∙ began.loop-i.invariant.1
+    let made : c.walk-test.auto ≡ round c.args.slots c.args.on.hard c.loop-i.began =
+            let s = c.loop-i.began in
+        let ss = c.args.slots in
+        let hard = c.args.on.hard in
+        ⊎_elim
+        (λ w. w.1 ∙ walk_ends ss hard s (subst (λ (k : ℕ). Walked ss hard s k c.walk.auto) (omega arith) c.walk.invariant.1))
+        (λ w. w.8 ∙ walk_breaks ss hard s w.0.true (sym w.6.ensures ∙ w.7.true)
+        (rw (sym w.1.ensures ∙ w.2.true, sym w.4.ensures ∙ not-true _ w.5.true)))
+        c.walk-test.branch in
+    let s = c.loop-i.began in
+    c.if-kept-began.true ∙ sym (searched_settled _ _ s (sym made ∙ c.if-kept-began.true)) ∙ c.loop-i.invariant.1

@@ -12,36 +12,28 @@ use Rattle.rules.specs.Table.{slot_at}
 use Rattle.rules.specs.Write.{sent_slot, sent_slots}
 use Rattle.slots.proofs.Walked.{Walked, walk_starts, walk_goes_on, walk_passes, walk_ends}
 use Rattle.send.proofs.sent.sent.Goals as goal
-use Rattle.send.proofs.sent.sent.Goals.{After-has, In-loop-i, Start}
+use Rattle.send.proofs.sent.sent.Goals.{Start}
 
 -- where the function starts it is told that the array has its 64 slots
 abbrev all_there : (c : Start) → length c.args.slots ≡ slots
 all_there c = c.well_formed.0.1.0.1
-
--- the turn that asks whether the set has its slot
-abbrev turn : After-has → In-loop-i
-turn c = c.before
 
 pub loop-i-init : goal.loop-i-init
 loop-i-init c = (omega arith, walk_starts (all_there c))
 
 pub loop-i-preserved-then-not-has : goal.loop-i-preserved-then-not-has
 loop-i-preserved-then-not-has c =
-    let at = (turn c.before).before in
-    let s = slot_at at.loop-i.next at.loop-i.i in
-    (omega arith, walk_passes at.loop-i.invariant.1 (ap (λ (goes : Bool). sent_slot goes s) (sym c.before.has.ensures ∙ c.if-not-has.true)))
+    let s = slot_at c.loop-i.next c.loop-i.i in
+    (omega arith, walk_passes c.loop-i.invariant.1 (ap (λ (goes : Bool). sent_slot goes s) (sym c.has.ensures ∙ c.if-not-has.true)))
 
 pub loop-i-preserved : goal.loop-i-preserved
 loop-i-preserved c =
-    let test = c.before.before in
-    let t = turn test.before in
-    let at = t.before in
-    let s = slot_at at.loop-i.next at.loop-i.i in (
+    let s = slot_at c.loop-i.next c.loop-i.i in (
       omega arith,
-      walk_goes_on at.loop-i.invariant.1 t.loop-i-test.true
-          (c.sent_slot-s.ensures ∙ ap (λ (goes : Bool). sent_slot goes s) (sym (sym test.before.has.ensures ∙ test.if-not-has.false))),
+      walk_goes_on c.loop-i.invariant.1 c.loop-i-test.true
+          (c.sent_slot-s.ensures ∙ ap (λ (goes : Bool). sent_slot goes s) (sym (sym c.has.ensures ∙ c.if-not-has.false))),
     )
 
 pub returns : goal.returns
 unfolding sent_slots
-returns c = walk_ends c.before.loop-i.invariant.1 c.loop-i-test.false
+returns c = walk_ends c.loop-i.invariant.1 c.loop-i-test.false

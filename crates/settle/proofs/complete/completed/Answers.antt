@@ -22,15 +22,12 @@ loop-i-init c = (omega arith, walk_starts (all_there c))
 
 pub loop-i-preserved : goal.loop-i-preserved
 loop-i-preserved c =
-    let asked = c.before in
-    let test = asked.before.before in
-    let at = test.before in
-    let s = slot_at at.loop-i.next at.loop-i.i in (
+    let s = slot_at c.loop-i.next c.loop-i.i in (
       omega arith,
-      walk_goes_on at.loop-i.invariant.1 test.loop-i-test.true
-          (c.landed_slot-s.ensures ∙ ap (λ (commits : Bool). landed_slot at.before.args.landed commits s) asked.has.ensures),
+      walk_goes_on c.loop-i.invariant.1 c.loop-i-test.true
+          (c.landed_slot-s.ensures ∙ ap (λ (commits : Bool). landed_slot c.args.landed commits s) c.has.ensures),
     )
 
 pub returns : goal.returns
 unfolding landed_slots
-returns c = walk_ends c.before.loop-i.invariant.1 c.loop-i-test.false
+returns c = walk_ends c.loop-i.invariant.1 c.loop-i-test.false

@@ -21,14 +21,14 @@ returns-in-Free c = none_of _ (λ r. ap (λ (u : State). has_room u r) c.in-Free
 
 pub returns-in-Hard : goal.returns-in-Hard
 returns-in-Hard c =
-    none_of _ (λ r. ap (λ (u : State). has_room u r) c.u-1.given.1
+    none_of _ (λ r. ap (λ (u : State). has_room u r) c.in-Waiting.is
     ∙ ap (λ (h : Hold). has_room (state.Waiting h) r) c.in-Hard.is)
 
 pub returns-in-Soft : goal.returns-in-Soft
 returns-in-Soft c =
     c.with.ensures
-    ∙ set_ext _ _ (λ r l. ap (λ (b : Bool). b || eqb r c.h-1.given.0.0) (has_none r)
-    ∙ sym (ap (λ (u : State). has_room u r) c.u-1.given.1 ∙ ap (λ (h : Hold). has_room (state.Waiting h) r) c.h-1.given.1))
+    ∙ set_ext _ _ (λ r l. ap (λ (b : Bool). b || eqb r c.in-Soft.r) (has_none r)
+    ∙ sym (ap (λ (u : State). has_room u r) c.in-Waiting.is ∙ ap (λ (h : Hold). has_room (state.Waiting h) r) c.in-Soft.is))
 
 pub returns-in-InFlight : goal.returns-in-InFlight
 returns-in-InFlight c = none_of _ (λ r. ap (λ (u : State). has_room u r) c.in-InFlight.is)

@@ -17,7 +17,7 @@ returns-then-rooms-room_of c = λ a. omega (arith, c.if-rooms-room_of.true, c.ro
 pub returns : goal.returns
 returns c =
     record {
-      c = yes_of c.in_range.result c.in_range.ensures c.if-not-in_range.false;
+      range = yes_of c.in_range.result c.in_range.ensures c.if-not-in_range.false;
       befores_other = λ h. clash h (sym c.has.ensures ∙ c.if-has.false);
       room_most = omega (arith, c.if-rooms-room_of.false, c.room_of.ensures);
     }
