@@ -8,4 +8,4 @@ pub returns-in-Waiting : goal.returns-in-Waiting
 returns-in-Waiting c = sym (ap turned_state c.in-Waiting.is)
 
 pub returns-in-InFlight : goal.returns-in-InFlight
-returns-in-InFlight c = sym (ap turned_state c.u-1.given.1)
+returns-in-InFlight c = sym (ap turned_state c.in-InFlight.is)

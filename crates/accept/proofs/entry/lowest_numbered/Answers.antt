@@ -8,6 +8,7 @@ use borrow.Author.Rules.{rules}
 use borrow.Author.Tests.{not-true, not-false}
 use Rattle.accept.proofs.Numbered.{Seen, seen_outside, seen_higher, seen_lower, seen_all}
 use Rattle.accept.proofs.entry.lowest_numbered.Goals as goal
+use Rattle.accept.proofs.entry.lowest_numbered.Goals.{then-found-lt-SLOTS+else-number-s, else-found-lt-SLOTS}
 
 pub loop-i-init : goal.loop-i-init
 loop-i-init c = record { most = omega arith; best = λ f. absurd (omega arith); number_is = λ f. absurd (omega arith); none = λ f k b. absurd (omega arith) }
@@ -26,7 +27,10 @@ pub loop-i-preserved : goal.loop-i-preserved
 loop-i-preserved c =
     let a = c.args in
     seen_lower a.slots a.set c.loop-i.invariant c.loop-i-test.true (sym c.has.ensures ∙ c.if-not-has.false)
-    (⊎_elim (λ w. inl (w.0.true, w.2.false)) (λ w. inr w.left) c.if-found-lt-SLOTS.branch)
+    (elim c.if-found-lt-SLOTS.branch [
+      then-found-lt-SLOTS+else-number-s w ↦ inl (w.if-found-lt-SLOTS.true, w.if-number-s.false)
+      | else-found-lt-SLOTS w ↦ inr w.if-found-lt-SLOTS.false
+    ])
 
 pub returns : goal.returns
 returns c = seen_all c.loop-i.invariant c.loop-i-test.false

@@ -29,7 +29,7 @@ loop-i-preserved c =
     let a = c.args in
     let gone = c.with.ensures in
     let rest = c.without-rest.ensures in (
-      back.auto.0 ∙ inv.0,
+      back.auto.out ∙ inv.0,
       rest_lt numbers a.undo.now inv.2 c.loop-i-test.true gone rest,
       c.highest-i-in-loop-i.ensures,
       ap (back_down a.slots _ a.undo.now 0 a.top) back.ensures

@@ -12,5 +12,5 @@ pub returns : goal.returns
 returns c =
     let a = c.args in
     let e : c.room_of.result * 64 ≡ room_start (room_of a.s.state) = omega (arith, c.room_of.ensures) in
-    subst (λ (x : ℕ). c.copy.last.0 ≡ splice a.out.now a.s.offset (part a.undo.now x a.s.len)) e
+    subst (λ (x : ℕ). c.copy.new.dst ≡ splice a.out.now a.s.offset (part a.undo.now x a.s.len)) e
     c.copy.ensures

@@ -12,6 +12,8 @@ use Rattle.rules.specs.Rounds.{round, searched}
 use Rattle.rules.proofs.Rounds.{round_lt, round_sub, searched_settled, searched_round}
 use Rattle.send.proofs.Striking.{Walked, walk_starts, walk_passes, walk_strikes, walk_ends, walk_breaks}
 use Rattle.send.proofs.largest.largest.Goals as goal
+use Rattle.send.proofs.largest.largest.Goals.{Else-kept-began, Then-kept-began, else-has, else-walk-test}
+use Rattle.send.proofs.largest.largest.Goals.{then-has+then-not-within+else-has-2, then-has+else-not-within, then-walk-test+then-has+then-not-within+then-has-2}
 
 pub loop-i-init : goal.loop-i-init
 loop-i-init c = (omega arith, refl)
@@ -21,63 +23,63 @@ walk-init c = (omega arith, walk_starts _ _ _ c.loop-i.invariant.0)
 
 pub walk-preserved : goal.walk-preserved
 walk-preserved c =
-    let i = c.walk.i in
     let s = c.loop-i.began in
     let ss = c.args.slots in
     let hard = c.args.on.hard in
     let w = c.walk.invariant.1 in
     let here = sym c.has.ensures in (
       omega arith,
-      ⊎_elim
-          (λ v. subst (Walked ss hard s (i + 1)) (sym v.8)
-          (walk_strikes ss hard s w (rw (here ∙ v.0.true, sym v.2.ensures ∙ not-true _ v.3.true)) (sym v.4.ensures ∙ v.5.false)
-          v.6.ensures v.7.ensures))
-          (⊎_elim
-          (λ v. subst (Walked ss hard s (i + 1)) (sym v.4)
-          (walk_passes ss hard s w (rw (here ∙ v.0.true, sym v.2.ensures ∙ not-false _ v.3.false))))
-          (λ v. subst (Walked ss hard s (i + 1)) (sym v.1) (walk_passes ss hard s w (rw (here ∙ v.0.false)))))
-          c.if-has.branch,
+      elim c.if-has.branch [
+        then-has+then-not-within+else-has-2 v ↦
+          subst (Walked ss hard s (c.walk.i + 1)) (sym v.kept-is)
+          (walk_strikes ss hard s w (rw (here ∙ v.if-has.true, sym v.within.ensures ∙ v.if-not-within.true))
+          (sym v.has-then-not-within.ensures ∙ v.if-has-2.false) v.with.ensures v.without-kept.ensures)
+        | then-has+else-not-within v ↦
+          subst (Walked ss hard s (c.walk.i + 1)) (sym v.kept-is)
+          (walk_passes ss hard s w (rw (here ∙ v.if-has.true, sym v.within.ensures ∙ v.if-not-within.false)))
+        | else-has v ↦ subst (Walked ss hard s (c.walk.i + 1)) (sym v.kept-is) (walk_passes ss hard s w (rw (here ∙ v.if-has.false)))
+      ],
     )
+
+-- the walk left, at its end or at a hard patch, has made a round: where it struck something, and where it did not
+made_smaller : (c : Else-kept-began) → c.walk-test.kept ≡ round c.args.slots c.args.on.hard c.loop-i.began
+made_smaller c =
+    let s = c.loop-i.began in
+    let ss = c.args.slots in
+    let hard = c.args.on.hard in
+    elim c.walk-test.branch [
+      else-walk-test w ↦
+        w.kept-is ∙ walk_ends ss hard s (subst (λ (k : ℕ). Walked ss hard s k c.walk.kept) (omega arith) c.walk.invariant.1)
+      | then-walk-test+then-has+then-not-within+then-has-2 w ↦
+        w.kept-is ∙ walk_breaks ss hard s w.walk-test.true (sym w.has-then-not-within.ensures ∙ w.if-has-2.true)
+        (rw (sym w.has.ensures ∙ w.if-has.true, sym w.within.ensures ∙ w.if-not-within.true))
+    ]
+
+made_settled : (c : Then-kept-began) → c.walk-test.kept ≡ round c.args.slots c.args.on.hard c.loop-i.began
+made_settled c =
+    let s = c.loop-i.began in
+    let ss = c.args.slots in
+    let hard = c.args.on.hard in
+    elim c.walk-test.branch [
+      else-walk-test w ↦
+        w.kept-is ∙ walk_ends ss hard s (subst (λ (k : ℕ). Walked ss hard s k c.walk.kept) (omega arith) c.walk.invariant.1)
+      | then-walk-test+then-has+then-not-within+then-has-2 w ↦
+        w.kept-is ∙ walk_breaks ss hard s w.walk-test.true (sym w.has-then-not-within.ensures ∙ w.if-has-2.true)
+        (rw (sym w.has.ensures ∙ w.if-has.true, sym w.within.ensures ∙ w.if-not-within.true))
+    ]
 
 pub loop-i-smaller : goal.loop-i-smaller
 loop-i-smaller c =
-    let made : c.walk-test.auto ≡ round c.args.slots c.args.on.hard c.loop-i.began =
-            let s = c.loop-i.began in
-        let ss = c.args.slots in
-        let hard = c.args.on.hard in
-        ⊎_elim
-        (λ w. w.1 ∙ walk_ends ss hard s (subst (λ (k : ℕ). Walked ss hard s k c.walk.auto) (omega arith) c.walk.invariant.1))
-        (λ w. w.8 ∙ walk_breaks ss hard s w.0.true (sym w.6.ensures ∙ w.7.true)
-        (rw (sym w.1.ensures ∙ w.2.true, sym w.4.ensures ∙ not-true _ w.5.true)))
-        c.walk-test.branch in
-    let r = made in
+    let r = made_smaller c in
     let s = c.loop-i.began in
     rw r (size_less _ s (round_lt _ _ s) c.loop-i.invariant.0 (round_sub _ _ s) (λ e. c.if-kept-began.false (r ∙ e)))
 
 pub loop-i-preserved : goal.loop-i-preserved
 loop-i-preserved c =
-    let made : c.walk-test.auto ≡ round c.args.slots c.args.on.hard c.loop-i.began =
-            let s = c.loop-i.began in
-        let ss = c.args.slots in
-        let hard = c.args.on.hard in
-        ⊎_elim
-        (λ w. w.1 ∙ walk_ends ss hard s (subst (λ (k : ℕ). Walked ss hard s k c.walk.auto) (omega arith) c.walk.invariant.1))
-        (λ w. w.8 ∙ walk_breaks ss hard s w.0.true (sym w.6.ensures ∙ w.7.true)
-        (rw (sym w.1.ensures ∙ w.2.true, sym w.4.ensures ∙ not-true _ w.5.true)))
-        c.walk-test.branch in
     let s = c.loop-i.began in
-    rw made (round_lt _ _ s, searched_round _ _ s c.loop-i.invariant.0 ∙ c.loop-i.invariant.1)
+    rw (made_smaller c) (round_lt _ _ s, searched_round _ _ s c.loop-i.invariant.0 ∙ c.loop-i.invariant.1)
 
 pub returns : goal.returns
 returns c =
-    let made : c.walk-test.auto ≡ round c.args.slots c.args.on.hard c.loop-i.began =
-            let s = c.loop-i.began in
-        let ss = c.args.slots in
-        let hard = c.args.on.hard in
-        ⊎_elim
-        (λ w. w.1 ∙ walk_ends ss hard s (subst (λ (k : ℕ). Walked ss hard s k c.walk.auto) (omega arith) c.walk.invariant.1))
-        (λ w. w.8 ∙ walk_breaks ss hard s w.0.true (sym w.6.ensures ∙ w.7.true)
-        (rw (sym w.1.ensures ∙ w.2.true, sym w.4.ensures ∙ not-true _ w.5.true)))
-        c.walk-test.branch in
     let s = c.loop-i.began in
-    c.if-kept-began.true ∙ sym (searched_settled _ _ s (sym made ∙ c.if-kept-began.true)) ∙ c.loop-i.invariant.1
+    c.if-kept-began.true ∙ sym (searched_settled _ _ s (sym (made_settled c) ∙ c.if-kept-began.true)) ∙ c.loop-i.invariant.1

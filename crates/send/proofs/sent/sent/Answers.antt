@@ -12,14 +12,9 @@ use Rattle.rules.specs.Table.{slot_at}
 use Rattle.rules.specs.Write.{sent_slot, sent_slots}
 use Rattle.slots.proofs.Walked.{Walked, walk_starts, walk_goes_on, walk_passes, walk_ends}
 use Rattle.send.proofs.sent.sent.Goals as goal
-use Rattle.send.proofs.sent.sent.Goals.{Start}
-
--- where the function starts it is told that the array has its 64 slots
-abbrev all_there : (c : Start) → length c.args.slots ≡ slots
-all_there c = c.well_formed.0.1.0.1
 
 pub loop-i-init : goal.loop-i-init
-loop-i-init c = (omega arith, walk_starts (all_there c))
+loop-i-init c = (omega arith, walk_starts c.well_formed.0.1.0.1)
 
 pub loop-i-preserved-then-not-has : goal.loop-i-preserved-then-not-has
 loop-i-preserved-then-not-has c =

@@ -13,10 +13,10 @@ sent_held : {u : State} {h : Hold} (g : Hold) → u ≡ state.Waiting h → h �
 sent_held g e f = sym (ap sent_state e ∙ ap (λ (x : Hold). state.InFlight (kind_of x)) f)
 
 pub returns-in-Hard : goal.returns-in-Hard
-returns-in-Hard c = sent_held _ c.u-1.given.1 c.in-Hard.is
+returns-in-Hard c = sent_held _ c.in-Waiting.is c.in-Hard.is
 
 pub returns-in-Soft : goal.returns-in-Soft
-returns-in-Soft c = sent_held _ c.u-1.given.1 c.in-Soft.is
+returns-in-Soft c = sent_held _ c.in-Waiting.is c.in-Soft.is
 
 pub returns-in-InFlight : goal.returns-in-InFlight
-returns-in-InFlight c = sym (ap sent_state c.u-in-InFlight-1.given.1)
+returns-in-InFlight c = sym (ap sent_state c.in-InFlight.is)
