@@ -1,17 +1,14 @@
 -- `befores::added` meets its contract. The loop's invariant: the set so far is that of the slots passed that are named and of another block.
 -- Assumes nothing.
 use Prim.Native.Nat.{ℕ, ◌-◌, ◌≤◌}
-use mathlib.Core.Path.{◌≡◌, sym, ap, ◌∙◌}
+use mathlib.Core.Path.{◌≡◌}
 use mathlib.Core.Bool.{Bool}
 use mathlib.Core.List.{List, []}
-use native.Mathlib.Omega.{arith}
 use Rattle.masks.specs.Sets.{set_below}
-use Rattle.masks.proofs.Laws.{below_none, with_if_below}
 use Rattle.rules.specs.declared.Slot.{Slot}
 use Rattle.rules.specs.Table.{slot_at}
-use Rattle.rules.specs.Create.{change_of, added}
+use Rattle.rules.specs.Create.{change_of}
 use Rattle.befores.specs.OneSlot.{elsewhere}
-use borrow.Author.Rules.{rules}
 use Rattle.befores.proofs.added.Given as goal
 
 -- the test that the walk asks of slot k

@@ -1,17 +1,14 @@
 -- `befores::befores` meets its contract. The loop's invariant: the set so far is that of the slots passed that the patch follows.
 -- Assumes nothing.
 use Prim.Native.Nat.{ℕ, ◌-◌, ◌≤◌}
-use mathlib.Core.Path.{◌≡◌, sym, ap, ◌∙◌}
+use mathlib.Core.Path.{◌≡◌}
 use mathlib.Core.Bool.{Bool}
 use mathlib.Core.List.{List}
-use native.Mathlib.Omega.{arith}
 use Rattle.masks.specs.Sets.{set_below}
-use Rattle.masks.proofs.Laws.{below_none, with_if_below}
 use Rattle.rules.specs.declared.Slot.{Slot}
 use Rattle.rules.specs.Table.{slot_at}
-use Rattle.rules.specs.Create.{Change, befores}
+use Rattle.rules.specs.Create.{Change}
 use Rattle.befores.specs.OneSlot.{follows}
-use borrow.Author.Rules.{rules}
 use Rattle.befores.proofs.befores.Given as goal
 
 -- the test that the walk asks of slot k

@@ -1,8 +1,7 @@
 -- `befores::elsewhere` meets its contract: each answer is what the tests before it leave of one slot. Assumes nothing.
 use mathlib.Core.Path.{◌≡◌, sym, ◌∙◌}
 use mathlib.Core.Bool.{true, ◌&&◌, and-true, and-false}
-use borrow.Author.Tests.{not-true, not-false, eq-eqb, ne_eqb}
-use borrow.Author.Rules.{rules}
+use borrow.Author.Tests.{eq-eqb, ne_eqb}
 use Rattle.rules.specs.Slots.{is_used}
 use Rattle.rules.specs.Create.{is_in}
 use Rattle.befores.proofs.elsewhere.Goals as goal
@@ -18,5 +17,5 @@ returns-then-s-block c =
 pub returns : goal.returns
 returns c =
     let in_use : is_used c.args.s.state ≡ true =
-        sym c.is_used.ensures ∙ c.if-not-is_used.false in
+    sym c.is_used.ensures ∙ c.if-not-is_used.false in
     rw (in_use, ne_eqb _ _ c.if-s-block.false) (c.is_in.ensures ∙ sym (and-true _))

@@ -1,13 +1,11 @@
 -- `befores::is_in` meets its contract. The loop's invariant: none of the numbers passed is n. Assumes nothing.
-use Prim.Native.Nat.{ℕ, ◌≤◌, ◌<◌, ◌-◌}
+use Prim.Native.Nat.{ℕ}
 use mathlib.Core.Path.{◌≡◌, sym, subst}
 use mathlib.Core.Bool.{true}
 use native.Mathlib.Omega.{arith}
 use borrow.Author.Count.{below_none, below_more}
-use lib.ListN.{length, get_or}
 use Rattle.rules.specs.Create.{is_in}
 use Rattle.slots.proofs.Members.{at_in, nowhere_in}
-use borrow.Author.Rules.{rules}
 use Rattle.befores.proofs.is_in.Goals as goal
 
 pub loop-k-init : goal.loop-k-init

@@ -1,13 +1,7 @@
 -- `befores::is_in` meets its contract. The loop's invariant: none of the numbers passed is n. Assumes nothing.
 use Prim.Native.Nat.{ℕ, ◌≤◌, ◌<◌, ◌-◌}
-use mathlib.Core.Path.{◌≡◌, sym, subst}
-use mathlib.Core.Bool.{true}
-use native.Mathlib.Omega.{arith}
-use borrow.Author.Count.{below_none, below_more}
+use mathlib.Core.Path.{◌≡◌}
 use lib.ListN.{length, get_or}
-use Rattle.rules.specs.Create.{is_in}
-use Rattle.slots.proofs.Members.{at_in, nowhere_in}
-use borrow.Author.Rules.{rules}
 use Rattle.befores.proofs.is_in.Given as goal
 
 abbrev pub invariant-loop-k : goal.invariant-loop-k

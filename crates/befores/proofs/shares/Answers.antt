@@ -3,7 +3,6 @@ use Prim.Native.Nat.{◌+◌, min, max}
 use mathlib.Core.Path.{◌≡◌, ap₂}
 use native.Mathlib.Omega.{arith}
 use lib.Dec.{ltb}
-use borrow.Author.Rules.{rules}
 use Rattle.befores.proofs.shares.Goals as goal
 use Rattle.befores.proofs.shares.Goals.{then-a-b, else-a-b, then-a_end-b_end, else-a_end-b_end}
 

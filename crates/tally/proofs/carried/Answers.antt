@@ -1,9 +1,7 @@
 -- `tally::carried` meets its contract: the sum of the slots passed. Assumes nothing.
-use Prim.Native.Nat.{◌-◌, ◌≤◌}
 use mathlib.Core.Path.{◌≡◌, refl, sym, ap, ap₂, ◌∙◌}
 use native.Mathlib.Numerals.{add-one}
 use native.Mathlib.Omega.{arith}
-use borrow.Author.Rules.{rules}
 use Rattle.tally.specs.Counts.{plus, carried_below}
 use Rattle.tally.proofs.carried.Goals as goal
 

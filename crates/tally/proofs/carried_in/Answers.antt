@@ -1,6 +1,5 @@
 -- `tally::carried_in` meets its contract. Assumes nothing.
 use mathlib.Core.Path.{sym, ◌∙◌}
-use borrow.Author.Rules.{rules}
 use Rattle.tally.proofs.carried_in.Goals as goal
 
 pub returns-then-has : goal.returns-then-has

@@ -1,11 +1,10 @@
 -- `tally::cleared` meets its contract: the counts of the slots passed stand at their places. Assumes nothing.
-use Prim.Native.Nat.{ℕ, ◌-◌, ◌≤◌, ◌<◌}
-use mathlib.Core.Path.{◌≡◌, refl, ◌∙◌}
+use Prim.Native.Nat.{ℕ}
+use mathlib.Core.Path.{refl, ◌∙◌}
 use mathlib.Core.Bool.{cond}
 use native.Mathlib.Omega.{arith}
 use borrow.Author.Count.{below_none}
-use borrow.Author.Rules.{rules}
-use lib.ListN.{length, get_or, length-set}
+use lib.ListN.{get_or, length-set}
 use Rattle.masks.specs.Sets.{has}
 use Rattle.rules.proofs.SlotsBy.{list_is}
 use Rattle.slots.proofs.Listed.{put_below}

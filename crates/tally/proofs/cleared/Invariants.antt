@@ -1,15 +1,9 @@
 -- `tally::cleared` meets its contract: the counts of the slots passed stand at their places. Assumes nothing.
 use Prim.Native.Nat.{ℕ, ◌-◌, ◌≤◌, ◌<◌}
-use mathlib.Core.Path.{◌≡◌, refl, ◌∙◌}
+use mathlib.Core.Path.{◌≡◌}
 use mathlib.Core.Bool.{cond}
-use native.Mathlib.Omega.{arith}
-use borrow.Author.Count.{below_none}
-use borrow.Author.Rules.{rules}
-use lib.ListN.{length, get_or, length-set}
+use lib.ListN.{length, get_or}
 use Rattle.masks.specs.Sets.{has}
-use Rattle.rules.proofs.SlotsBy.{list_is}
-use Rattle.slots.proofs.Listed.{put_below}
-use Rattle.tally.specs.Counts.{cleared}
 use Rattle.tally.proofs.cleared.Given as goal
 
 abbrev pub invariant-loop-i : goal.invariant-loop-i

@@ -1,6 +1,5 @@
 -- `tally::cleared_in` meets its contract. Assumes nothing.
 use mathlib.Core.Path.{sym, ◌∙◌}
-use borrow.Author.Rules.{rules}
 use Rattle.tally.proofs.cleared_in.Goals as goal
 
 pub returns-then-has : goal.returns-then-has

@@ -1,12 +1,9 @@
 -- `tally::cut_landing` meets its contract: the set of those of the slots passed that land. Assumes nothing.
 use Prim.Native.Nat.{ℕ, ◌-◌, ◌≤◌}
-use mathlib.Core.Path.{◌≡◌, sym, ap, ◌∙◌}
+use mathlib.Core.Path.{◌≡◌}
 use mathlib.Core.Bool.{Bool, ◌&&◌}
 use mathlib.Core.List.{List}
-use native.Mathlib.Omega.{arith}
-use borrow.Author.Rules.{rules}
 use Rattle.masks.specs.Sets.{has, set_below}
-use Rattle.masks.proofs.Laws.{below_none, with_if_below}
 use Rattle.rules.specs.declared.Slot.{Slot}
 use Rattle.rules.specs.Slots.{is_in_flight}
 use Rattle.rules.specs.Table.{slot_at}

@@ -1,5 +1,4 @@
 -- `tally::lands` meets its contract: each state in turn. Assumes nothing.
-use borrow.Author.Rules.{rules}
 use Rattle.tally.proofs.lands.Goals as goal
 
 pub returns-in-InFlight : goal.returns-in-InFlight

@@ -1,16 +1,11 @@
 -- `tally::one_more` meets its contract: the counts of the slots passed stand at their places. Assumes nothing.
-use Prim.Native.Nat.{ℕ, ◌-◌, ◌≤◌, ◌<◌}
-use mathlib.Core.Path.{◌≡◌, refl, ◌∙◌}
-use mathlib.Core.Bool.{cond}
-use mathlib.Core.List.{List}
+use mathlib.Core.Path.{refl, ◌∙◌}
 use native.Mathlib.Omega.{arith}
 use borrow.Author.Count.{below_none}
-use borrow.Author.Rules.{rules}
-use lib.ListN.{length, get_or, length-set}
-use Rattle.rules.specs.declared.Slot.{Slot}
+use lib.ListN.{length-set}
 use Rattle.rules.proofs.SlotsBy.{list_is}
 use Rattle.slots.proofs.Listed.{put_below}
-use Rattle.tally.specs.Counts.{plus, holds_number, one_more}
+use Rattle.tally.specs.Counts.{one_more}
 use Rattle.tally.proofs.one_more.Goals as goal
 use Rattle.tally.proofs.one_more.Invariants.{more_at}
 

@@ -1,16 +1,11 @@
 -- `tally::one_more` meets its contract: the counts of the slots passed stand at their places. Assumes nothing.
 use Prim.Native.Nat.{ℕ, ◌-◌, ◌≤◌, ◌<◌}
-use mathlib.Core.Path.{◌≡◌, refl, ◌∙◌}
+use mathlib.Core.Path.{◌≡◌}
 use mathlib.Core.Bool.{cond}
 use mathlib.Core.List.{List}
-use native.Mathlib.Omega.{arith}
-use borrow.Author.Count.{below_none}
-use borrow.Author.Rules.{rules}
-use lib.ListN.{length, get_or, length-set}
+use lib.ListN.{length, get_or}
 use Rattle.rules.specs.declared.Slot.{Slot}
-use Rattle.rules.proofs.SlotsBy.{list_is}
-use Rattle.slots.proofs.Listed.{put_below}
-use Rattle.tally.specs.Counts.{plus, holds_number, one_more}
+use Rattle.tally.specs.Counts.{plus, holds_number}
 use Rattle.tally.proofs.one_more.Given as goal
 
 abbrev pub more_at : List Slot → ℕ → List ℕ → ℕ → ℕ

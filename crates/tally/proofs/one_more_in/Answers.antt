@@ -1,7 +1,6 @@
 -- `tally::one_more_in` meets its contract. Assumes nothing.
 use mathlib.Core.Path.{sym, ◌∙◌}
 use borrow.Author.Tests.{eq-eqb, ne_eqb}
-use borrow.Author.Rules.{rules}
 use Rattle.tally.proofs.one_more_in.Goals as goal
 
 pub returns-then-not-is_used : goal.returns-then-not-is_used

@@ -1,7 +1,6 @@
 -- `tally::plus` meets its contract. Assumes nothing.
 use native.Mathlib.Omega.{arith}
 use Rattle.tally.specs.Counts.{plus}
-use borrow.Author.Rules.{rules}
 use Rattle.tally.proofs.plus.Goals as goal
 
 pub returns-then-a-b : goal.returns-then-a-b

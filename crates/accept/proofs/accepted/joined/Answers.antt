@@ -2,7 +2,6 @@
 use Prim.Native.Nat.{ℕ}
 use mathlib.Core.Path.{ap, ◌∙◌}
 use mathlib.Core.List.{List}
-use borrow.Author.Rules.{rules}
 use lib.ListN.{set}
 use Rattle.rules.specs.declared.Hold.TheVariants as hold
 use Rattle.rules.specs.declared.Slot.{Slot}

@@ -1,16 +1,8 @@
 -- `accept::accepted::turned_all` meets its contract: a walk whose turn is turned, which leaves the slots of other blocks alone. Assumes nothing.
 use Prim.Native.Nat.{◌≤◌, ◌-◌}
-use mathlib.Core.Path.{◌≡◌, sym, ap, ◌∙◌}
-use mathlib.Core.Bool.{Bool}
-use native.Mathlib.Omega.{arith}
-use borrow.Author.Rules.{rules}
-use borrow.Author.Tests.{eq-eqb, ne_eqb}
-use lib.ListN.{length}
 use Rattle.rules.specs.declared.Hold.TheVariants as hold
-use Rattle.rules.specs.Sizes.{slots}
-use Rattle.rules.specs.Table.{slot_at}
-use Rattle.rules.specs.Create.{turned_slot, turned}
-use Rattle.slots.proofs.Walked.{Walked, walk_starts, walk_goes_on, walk_passes, walk_ends}
+use Rattle.rules.specs.Create.{turned}
+use Rattle.slots.proofs.Walked.{Walked}
 use Rattle.accept.proofs.accepted.turned_all.Given as goal
 
 abbrev pub invariant-loop-i : goal.invariant-loop-i

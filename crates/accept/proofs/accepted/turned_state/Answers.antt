@@ -1,7 +1,6 @@
 -- `accept::accepted::turned_state` meets its contract: each arm of the match is a case of turned_state. Assumes nothing.
 use mathlib.Core.Path.{sym, ap}
 use Rattle.rules.specs.Create.{turned_state}
-use borrow.Author.Rules.{rules}
 use Rattle.accept.proofs.accepted.turned_state.Goals as goal
 
 pub returns-in-Waiting : goal.returns-in-Waiting

@@ -1,7 +1,6 @@
 -- `accept::accepted::with_more` meets its contract. Assumes nothing.
 use Prim.Native.Nat.{ℕ}
 use mathlib.Core.Path.{ap, ◌∙◌}
-use borrow.Author.Rules.{rules}
 use Rattle.rules.specs.Slots.{with_befores}
 use Rattle.accept.proofs.accepted.with_more.Goals as goal
 

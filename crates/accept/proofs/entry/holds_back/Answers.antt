@@ -1,8 +1,6 @@
 -- `accept::entry::holds_back` meets its contract: each answer is what the tests before it leave of one slot. Assumes nothing.
 use mathlib.Core.Path.{sym, ◌∙◌}
-use borrow.Author.Tests.{not-true, not-false}
 use Rattle.ground.proofs.Decided.{clash, decides, yes_of, no_of}
-use borrow.Author.Rules.{rules}
 use Rattle.accept.proofs.entry.holds_back.Goals as goal
 
 pub returns-then-not-is_used : goal.returns-then-not-is_used

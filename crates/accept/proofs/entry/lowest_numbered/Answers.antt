@@ -1,12 +1,9 @@
 -- `accept::entry::lowest_numbered` meets its contract. The loop's invariant: of the slots passed that are in the set, the one found has the lowest
 -- number. Assumes nothing.
-use Prim.Native.Nat.{◌-◌}
 use mathlib.Core.Path.{sym, ◌∙◌}
-use mathlib.Core.Logic.{inl, inr, ⊎_elim}
+use mathlib.Core.Logic.{inl, inr}
 use native.Mathlib.Omega.{arith}
-use borrow.Author.Rules.{rules}
-use borrow.Author.Tests.{not-true, not-false}
-use Rattle.accept.proofs.Numbered.{Seen, seen_outside, seen_higher, seen_lower, seen_all}
+use Rattle.accept.proofs.Numbered.{seen_outside, seen_higher, seen_lower, seen_all}
 use Rattle.accept.proofs.entry.lowest_numbered.Goals as goal
 use Rattle.accept.proofs.entry.lowest_numbered.Goals.{then-found-lt-SLOTS+else-number-s, else-found-lt-SLOTS}
 
@@ -28,7 +25,7 @@ loop-i-preserved c =
     let a = c.args in
     seen_lower a.slots a.set c.loop-i.invariant c.loop-i-test.true (sym c.has.ensures ∙ c.if-not-has.false)
     (elim c.if-found-lt-SLOTS.branch [
-      then-found-lt-SLOTS+else-number-s w ↦ inl (w.if-found-lt-SLOTS.true, w.if-number-s.false)
+      | then-found-lt-SLOTS+else-number-s w ↦ inl (w.if-found-lt-SLOTS.true, w.if-number-s.false)
       | else-found-lt-SLOTS w ↦ inr w.if-found-lt-SLOTS.false
     ])
 

@@ -1,14 +1,10 @@
 -- `accept::entry::would_be_hard` meets its contract. The loop's invariant: none of the slots passed holds the block's waiting patches back.
 -- Assumes nothing.
-use Prim.Native.Nat.{ℕ, ◌≤◌, ◌<◌, ◌-◌}
 use native.Mathlib.Omega.{arith}
 use borrow.Author.Count.{below_none, below_more}
 use mathlib.Core.Path.{sym, ◌∙◌}
 use Rattle.ground.proofs.Decided.{clash, yes_of, no_of}
-use Rattle.rules.specs.Table.{slot_at}
-use Rattle.accept.specs.OneSlot.{HoldsBack}
 use Rattle.accept.proofs.HeldBack.{hard_holds_none, none_holds_hard}
-use borrow.Author.Rules.{rules}
 use Rattle.accept.proofs.entry.would_be_hard.Goals as goal
 
 pub returns-then-all_soft : goal.returns-then-all_soft

@@ -1,13 +1,10 @@
 -- `early::named::unissued` meets its contract. The loop's invariant: each of the numbers passed was issued. Assumes nothing.
-use Prim.Native.Nat.{ℕ, ◌≤◌, ◌<◌, ◌-◌}
 use mathlib.Core.Path.{subst}
 use native.Mathlib.Omega.{arith}
 use borrow.Author.Count.{below_none, below_more}
-use lib.ListN.{length, get_or}
-use Rattle.ground.proofs.Decided.{yes_not, no_not, no_of, yes_of}
+use Rattle.ground.proofs.Decided.{no_of, yes_of}
 use Rattle.rules.specs.Table.{Issued}
 use Rattle.slots.proofs.Members.{at_in, in_at}
-use borrow.Author.Rules.{rules}
 use Rattle.early.proofs.named.unissued.Goals as goal
 
 pub loop-k-init : goal.loop-k-init

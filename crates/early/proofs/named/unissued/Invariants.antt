@@ -1,13 +1,7 @@
 -- `early::named::unissued` meets its contract. The loop's invariant: each of the numbers passed was issued. Assumes nothing.
 use Prim.Native.Nat.{ℕ, ◌≤◌, ◌<◌, ◌-◌}
-use mathlib.Core.Path.{subst}
-use native.Mathlib.Omega.{arith}
-use borrow.Author.Count.{below_none, below_more}
 use lib.ListN.{length, get_or}
-use Rattle.ground.proofs.Decided.{yes_not, no_not}
 use Rattle.rules.specs.Table.{Issued}
-use Rattle.slots.proofs.Members.{at_in, in_at}
-use borrow.Author.Rules.{rules}
 use Rattle.early.proofs.named.unissued.Given as goal
 
 abbrev pub invariant-loop-k : goal.invariant-loop-k

@@ -3,7 +3,6 @@
 use Prim.Native.Nat.{ℕ, ◌*◌}
 use mathlib.Core.Path.{◌≡◌, ap, ◌∙◌}
 use native.Mathlib.Omega.{arith}
-use borrow.Author.Rules.{rules}
 use Rattle.masks.proofs.Laws.{has_of}
 use Rattle.spans.specs.Spans.{splice, part}
 use Rattle.rules.specs.Sizes.{block_start}

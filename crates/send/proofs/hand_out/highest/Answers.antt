@@ -1,8 +1,7 @@
 -- `send::hand_out::highest` meets its contract. The loop's invariant: of the slots passed, `best` is the best. Assumes nothing.
-use Prim.Native.Nat.{ℕ, ◌≤◌, ◌-◌}
+use Prim.Native.Nat.{ℕ}
 use mathlib.Core.Path.{◌≡◌, subst}
 use native.Mathlib.Omega.{arith}
-use borrow.Author.Rules.{rules}
 use Rattle.send.specs.Back.{Best}
 use Rattle.send.proofs.Back.{best_of_none}
 use Rattle.send.proofs.hand_out.highest.Goals as goal

@@ -1,13 +1,8 @@
 -- `send::hand_out::take_all_back` meets its contract. The loop's invariant: slot i is the next to be taken back, and what is left to do to
 -- the block now gives what all gives to the block as it came. The measure is how many patches are left. Assumes nothing.
-use Prim.Native.Nat.{◌<◌, ◌^◌}
-use mathlib.Core.Path.{◌≡◌, refl, sym, ap, ◌∙◌}
+use mathlib.Core.Path.{refl, sym, ap, ◌∙◌}
 use native.Mathlib.Omega.{arith}
-use borrow.Author.Rules.{rules}
-use lib.ListN.{length}
-use Rattle.masks.specs.Sets.{has, how_many}
 use Rattle.rules.specs.Write.{taken_back, back_down}
-use Rattle.send.specs.Back.{Best}
 use Rattle.send.proofs.Back.{highest_back, rest_lt, rest_less, none_back}
 use Rattle.send.proofs.hand_out.take_all_back.Goals as goal
 

@@ -2,7 +2,6 @@
 use Prim.Native.Nat.{ℕ, ◌*◌}
 use mathlib.Core.Path.{◌≡◌, subst}
 use native.Mathlib.Omega.{arith}
-use borrow.Author.Rules.{rules}
 use Rattle.spans.specs.Spans.{splice, part}
 use Rattle.rules.specs.Sizes.{room_start}
 use Rattle.rules.specs.Slots.{room_of}

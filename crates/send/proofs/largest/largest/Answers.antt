@@ -1,14 +1,10 @@
 -- `send::largest::largest` meets its contract. The invariant of the rounds: the search from the set that a round begins with ends where the search
 -- from the first one does. That of the walk in a round: what the round has kept so far. A round that strikes makes the set smaller. Assumes nothing.
-use Prim.Native.Nat.{ℕ, ◌+◌, ◌-◌, ◌^◌, ◌≤◌, ◌<◌}
+use Prim.Native.Nat.{ℕ, ◌+◌}
 use mathlib.Core.Path.{◌≡◌, refl, sym, ◌∙◌, subst}
-use mathlib.Core.Logic.{⊎_elim}
 use native.Mathlib.Omega.{arith}
-use borrow.Author.Rules.{rules}
-use borrow.Author.Tests.{not-true, not-false}
-use Rattle.masks.specs.Sets.{has, how_many}
 use Rattle.masks.proofs.Laws.{size_less}
-use Rattle.rules.specs.Rounds.{round, searched}
+use Rattle.rules.specs.Rounds.{round}
 use Rattle.rules.proofs.Rounds.{round_lt, round_sub, searched_settled, searched_round}
 use Rattle.send.proofs.Striking.{Walked, walk_starts, walk_passes, walk_strikes, walk_ends, walk_breaks}
 use Rattle.send.proofs.largest.largest.Goals as goal
@@ -30,13 +26,13 @@ walk-preserved c =
     let here = sym c.has.ensures in (
       omega arith,
       elim c.if-has.branch [
-        then-has+then-not-within+else-has-2 v ↦
-          subst (Walked ss hard s (c.walk.i + 1)) (sym v.kept-is)
-          (walk_strikes ss hard s w (rw (here ∙ v.if-has.true, sym v.within.ensures ∙ v.if-not-within.true))
-          (sym v.has-then-not-within.ensures ∙ v.if-has-2.false) v.with.ensures v.without-kept.ensures)
+        | then-has+then-not-within+else-has-2 v ↦
+            subst (Walked ss hard s (c.walk.i + 1)) (sym v.kept-is)
+            (walk_strikes ss hard s w (rw (here ∙ v.if-has.true, sym v.within.ensures ∙ v.if-not-within.true))
+            (sym v.has-then-not-within.ensures ∙ v.if-has-2.false) v.with.ensures v.without-kept.ensures)
         | then-has+else-not-within v ↦
-          subst (Walked ss hard s (c.walk.i + 1)) (sym v.kept-is)
-          (walk_passes ss hard s w (rw (here ∙ v.if-has.true, sym v.within.ensures ∙ v.if-not-within.false)))
+            subst (Walked ss hard s (c.walk.i + 1)) (sym v.kept-is)
+            (walk_passes ss hard s w (rw (here ∙ v.if-has.true, sym v.within.ensures ∙ v.if-not-within.false)))
         | else-has v ↦ subst (Walked ss hard s (c.walk.i + 1)) (sym v.kept-is) (walk_passes ss hard s w (rw (here ∙ v.if-has.false)))
       ],
     )
@@ -48,11 +44,11 @@ made_smaller c =
     let ss = c.args.slots in
     let hard = c.args.on.hard in
     elim c.walk-test.branch [
-      else-walk-test w ↦
-        w.kept-is ∙ walk_ends ss hard s (subst (λ (k : ℕ). Walked ss hard s k c.walk.kept) (omega arith) c.walk.invariant.1)
+      | else-walk-test w ↦
+          w.kept-is ∙ walk_ends ss hard s (subst (λ (k : ℕ). Walked ss hard s k c.walk.kept) (omega arith) c.walk.invariant.1)
       | then-walk-test+then-has+then-not-within+then-has-2 w ↦
-        w.kept-is ∙ walk_breaks ss hard s w.walk-test.true (sym w.has-then-not-within.ensures ∙ w.if-has-2.true)
-        (rw (sym w.has.ensures ∙ w.if-has.true, sym w.within.ensures ∙ w.if-not-within.true))
+          w.kept-is ∙ walk_breaks ss hard s w.walk-test.true (sym w.has-then-not-within.ensures ∙ w.if-has-2.true)
+          (rw (sym w.has.ensures ∙ w.if-has.true, sym w.within.ensures ∙ w.if-not-within.true))
     ]
 
 made_settled : (c : Then-kept-began) → c.walk-test.kept ≡ round c.args.slots c.args.on.hard c.loop-i.began
@@ -61,11 +57,11 @@ made_settled c =
     let ss = c.args.slots in
     let hard = c.args.on.hard in
     elim c.walk-test.branch [
-      else-walk-test w ↦
-        w.kept-is ∙ walk_ends ss hard s (subst (λ (k : ℕ). Walked ss hard s k c.walk.kept) (omega arith) c.walk.invariant.1)
+      | else-walk-test w ↦
+          w.kept-is ∙ walk_ends ss hard s (subst (λ (k : ℕ). Walked ss hard s k c.walk.kept) (omega arith) c.walk.invariant.1)
       | then-walk-test+then-has+then-not-within+then-has-2 w ↦
-        w.kept-is ∙ walk_breaks ss hard s w.walk-test.true (sym w.has-then-not-within.ensures ∙ w.if-has-2.true)
-        (rw (sym w.has.ensures ∙ w.if-has.true, sym w.within.ensures ∙ w.if-not-within.true))
+          w.kept-is ∙ walk_breaks ss hard s w.walk-test.true (sym w.has-then-not-within.ensures ∙ w.if-has-2.true)
+          (rw (sym w.has.ensures ∙ w.if-has.true, sym w.within.ensures ∙ w.if-not-within.true))
     ]
 
 pub loop-i-smaller : goal.loop-i-smaller

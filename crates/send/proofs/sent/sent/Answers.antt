@@ -1,16 +1,10 @@
 -- `send::sent::sent` meets its contract: a walk whose turn sends the slot where the set has it. Assumes nothing.
-use Prim.Native.Nat.{◌≤◌, ◌-◌}
-use mathlib.Core.Path.{◌≡◌, sym, ap, ◌∙◌}
+use mathlib.Core.Path.{sym, ap, ◌∙◌}
 use mathlib.Core.Bool.{Bool}
 use native.Mathlib.Omega.{arith}
-use borrow.Author.Rules.{rules}
-use borrow.Author.Tests.{not-true, not-false}
-use lib.ListN.{length}
-use Rattle.masks.specs.Sets as Sets
-use Rattle.rules.specs.Sizes.{slots}
 use Rattle.rules.specs.Table.{slot_at}
 use Rattle.rules.specs.Write.{sent_slot, sent_slots}
-use Rattle.slots.proofs.Walked.{Walked, walk_starts, walk_goes_on, walk_passes, walk_ends}
+use Rattle.slots.proofs.Walked.{walk_starts, walk_goes_on, walk_passes, walk_ends}
 use Rattle.send.proofs.sent.sent.Goals as goal
 
 pub loop-i-init : goal.loop-i-init

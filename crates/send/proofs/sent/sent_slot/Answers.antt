@@ -2,7 +2,6 @@
 use mathlib.Core.Path.{ap, ◌∙◌}
 use Rattle.rules.specs.declared.State.{State}
 use Rattle.rules.specs.Slots.{with_state}
-use borrow.Author.Rules.{rules}
 use Rattle.send.proofs.sent.sent_slot.Goals as goal
 
 pub returns : goal.returns

@@ -5,7 +5,6 @@ use Rattle.rules.specs.declared.State.{State}
 use Rattle.rules.specs.declared.State.TheVariants as state
 use Rattle.rules.specs.Slots.{kind_of}
 use Rattle.rules.specs.Write.{sent_state}
-use borrow.Author.Rules.{rules}
 use Rattle.send.proofs.sent.sent_state.Goals as goal
 
 -- a waiting patch goes hard or soft as it is held

@@ -1,15 +1,12 @@
 -- `settle::complete::completed` meets its contract: a walk whose turn commits the slots of the set. Assumes nothing.
-use Prim.Native.Nat.{◌≤◌, ◌-◌}
 use mathlib.Core.Path.{◌≡◌, ap, ◌∙◌}
 use mathlib.Core.Bool.{Bool}
 use native.Mathlib.Omega.{arith}
-use borrow.Author.Rules.{rules}
 use lib.ListN.{length}
-use Rattle.masks.specs.Sets.{has}
 use Rattle.rules.specs.Sizes.{slots}
 use Rattle.rules.specs.Table.{slot_at}
 use Rattle.rules.specs.Complete.{landed_slot, landed_slots}
-use Rattle.slots.proofs.Walked.{Walked, walk_starts, walk_goes_on, walk_ends}
+use Rattle.slots.proofs.Walked.{walk_starts, walk_goes_on, walk_ends}
 use Rattle.settle.proofs.complete.completed.Goals as goal
 use Rattle.settle.proofs.complete.completed.Goals.{Start}
 

@@ -2,7 +2,6 @@
 use Prim.Native.Nat.{ℕ}
 use mathlib.Core.Path.{sym, ap, ◌∙◌}
 use Rattle.rules.specs.Slots.{with_befores}
-use borrow.Author.Rules.{rules}
 use Rattle.settle.proofs.complete.landed_slot.Goals as goal
 
 pub returns-then-is_used : goal.returns-then-is_used

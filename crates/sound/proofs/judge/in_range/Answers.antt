@@ -1,6 +1,5 @@
 -- `sound::judge::in_range` meets its contract: each test is a field of InRange. Assumes nothing.
 use native.Mathlib.Omega.{arith}
-use borrow.Author.Rules.{rules}
 use Rattle.sound.proofs.judge.in_range.Goals as goal
 
 pub returns-then-s-first : goal.returns-then-s-first

@@ -1,29 +1,23 @@
 -- `sound::judge::judge` meets its contract. The loop's invariant: each slot passed is sound alone and apart from those below it, and
 -- the sets and the marks have what the slots passed give. Assumes nothing.
-use Prim.Native.Nat.{ℕ, ◌≤◌, ◌<◌, ◌-◌}
+use Prim.Native.Nat.{ℕ, ◌<◌}
 use mathlib.Core.Path.{◌≡◌, sym, ap, ◌∙◌, subst}
 use mathlib.Core.Bool.{true}
-use mathlib.Core.List.{List}
-use mathlib.Core.Logic.{⊎_elim}
 use native.Mathlib.Omega.{arith}
 use borrow.Author.Count.{below_none, below_more}
 use borrow.Author.Rules.{rules}
-use borrow.Author.Tests.{not-true, not-false}
-use lib.ListN.{length}
-use Rattle.masks.specs.Sets.{set_below}
-use Rattle.ground.proofs.Decided.{clash, yes_of, no_of, yes_not, no_not}
+use Rattle.ground.proofs.Decided.{clash, yes_of, no_of}
 use Rattle.masks.proofs.Laws as sets
-use Rattle.rules.specs.declared.Slot.{Slot}
 use Rattle.rules.specs.Table.{Sound, table_of, used, slot_at}
 use Rattle.sound.specs.SlotSound.{HeaderInRange, Alone, marked}
 use Rattle.rules.proofs.Rooms.{rooms_most}
 use Rattle.rules.proofs.Words.{room_is, has_room_used}
-use Rattle.sound.proofs.Gathered.{gathered, gathered_none, gathered_pass, gathered_more}
+use Rattle.sound.proofs.Gathered.{gathered_none, gathered_pass, gathered_more}
 use Rattle.sound.proofs.Rooms.{roomed, free_roomless, rooms_more, meets_shares, shares_meets}
 use Rattle.sound.proofs.Tested.{Tested, follows, NumberApart, sound_tested, sound_within, tested_sound, not_sound}
 use Rattle.sound.proofs.judge.judge.Goals as goal
 use Rattle.sound.proofs.judge.judge.Goals.{then-mark+else-find-i, else-mark}
-use Rattle.sound.proofs.judge.judge.Invariants.{MarkedBelow, Passed}
+use Rattle.sound.proofs.judge.judge.Invariants.{Passed}
 
 pub returns-then-not-header_in_range : goal.returns-then-not-header_in_range
 returns-then-not-header_in_range c =
@@ -64,9 +58,9 @@ loop-i-preserved-then-not-is_used c =
 pub returns-then-not-sound_alone : goal.returns-then-not-sound_alone
 returns-then-not-sound_alone c =
     let in_use : used c.args.slots c.loop-i.i ≡ true =
-        sym c.is_used.ensures ∙ c.if-not-is_used.false in
+    sym c.is_used.ensures ∙ c.if-not-is_used.false in
     let passes : let a = c.args in Sound (table_of a.setting a.first a.next a.slots) → Tested a.first a.next c.rooms-most.result a.slots c.loop-i.i =
-        λ s. sound_tested c.rooms-most.ensures s _ c.loop-i-test.true in
+    λ s. sound_tested c.rooms-most.ensures s _ c.loop-i-test.true in
     not_sound c.unsound-then-not-sound_alone.ensures
     (λ s. no_of {P = Alone _ _ _ _ _} c.sound_alone.result c.sound_alone.ensures c.if-not-sound_alone.true
     ((passes s).alone in_use))
@@ -77,15 +71,15 @@ mark-requires c = c.loop-i.invariant.size
 pub returns-then-find-i : goal.returns-then-find-i
 returns-then-find-i c =
     let in_use : used c.args.slots c.loop-i.i ≡ true =
-        sym c.is_used.ensures ∙ c.if-not-is_used.false in
+    sym c.is_used.ensures ∙ c.if-not-is_used.false in
     let passes : let a = c.args in Sound (table_of a.setting a.first a.next a.slots) → Tested a.first a.next c.rooms-most.result a.slots c.loop-i.i =
-        λ s. sound_tested c.rooms-most.ensures s _ c.loop-i-test.true in
+    λ s. sound_tested c.rooms-most.ensures s _ c.loop-i-test.true in
     not_sound c.unsound-then-find-i.ensures (λ s. (passes s).number in_use _ c.if-find-i.true (c.find.ensures.there (omega arith)))
 
 pub returns-then-meets : goal.returns-then-meets
 returns-then-meets c =
     let passes : let a = c.args in Sound (table_of a.setting a.first a.next a.slots) → Tested a.first a.next c.rooms-most.result a.slots c.loop-i.i =
-        λ s. sound_tested c.rooms-most.ensures s _ c.loop-i-test.true in
+    λ s. sound_tested c.rooms-most.ensures s _ c.loop-i-test.true in
     let shared =
     meets_shares c.args.slots c.loop-i.i c.loop-i.invariant.rooms
     c.room_set-room.ensures (yes_of c.meets.result c.meets.ensures c.if-meets.true) in
@@ -94,13 +88,13 @@ returns-then-meets c =
 pub loop-i-preserved : goal.loop-i-preserved
 loop-i-preserved c =
     let in_use : used c.args.slots c.loop-i.i ≡ true =
-        sym c.is_used.ensures ∙ c.if-not-is_used.false in
+    sym c.is_used.ensures ∙ c.if-not-is_used.false in
     let apart : NumberApart c.args.slots c.loop-i.i =
-        elim c.if-mark.branch [
-          then-mark+else-find-i w ↦ λ j b h. w.find.ensures.none_below j (omega arith) h
-          | else-mark w ↦
-            λ j b h. clash (ap (marked c.loop-i.marks) (sym h.1) ∙ c.loop-i.invariant.marks_below j b h.0) (sym c.mark.ensures.was ∙ w.if-mark.false)
-        ] in
+    elim c.if-mark.branch [
+      | then-mark+else-find-i w ↦ λ j b h. w.find.ensures.none_below j (omega arith) h
+      | else-mark w ↦
+          λ j b h. clash (ap (marked c.loop-i.marks) (sym h.1) ∙ c.loop-i.invariant.marks_below j b h.0) (sym c.mark.ensures.was ∙ w.if-mark.false)
+    ] in
     let ss = c.args.slots in
     let passed = c.loop-i.invariant in
     let u = in_use in
@@ -126,10 +120,10 @@ loop-i-preserved c =
 pub returns-then-not-within : goal.returns-then-not-within
 returns-then-not-within c =
     let all_passed : let a = c.args in Passed a.first a.next c.rooms-most.result a.slots c.loop-i.marks c.loop-i.taken c.loop-i.used c.loop-i.befores 64 =
-            let a = c.args in
-        let all : c.loop-i.i ≡ 64 = omega arith in
-        subst (Passed a.first a.next c.rooms-most.result a.slots c.loop-i.marks c.loop-i.taken c.loop-i.used c.loop-i.befores) all
-        c.loop-i.invariant in
+    let a = c.args in
+    let all : c.loop-i.i ≡ 64 = omega arith in
+    subst (Passed a.first a.next c.rooms-most.result a.slots c.loop-i.marks c.loop-i.taken c.loop-i.used c.loop-i.befores) all
+    c.loop-i.invariant in
     let passed = all_passed in
     not_sound c.unsound-then-not-within.ensures
     (λ s. clash (sound_within c.rooms-most.ensures passed.befores_all passed.uses s)
@@ -138,10 +132,10 @@ returns-then-not-within c =
 pub returns : goal.returns
 returns c =
     let all_passed : let a = c.args in Passed a.first a.next c.rooms-most.result a.slots c.loop-i.marks c.loop-i.taken c.loop-i.used c.loop-i.befores 64 =
-            let a = c.args in
-        let all : c.loop-i.i ≡ 64 = omega arith in
-        subst (Passed a.first a.next c.rooms-most.result a.slots c.loop-i.marks c.loop-i.taken c.loop-i.used c.loop-i.befores) all
-        c.loop-i.invariant in
+    let a = c.args in
+    let all : c.loop-i.i ≡ 64 = omega arith in
+    subst (Passed a.first a.next c.rooms-most.result a.slots c.loop-i.marks c.loop-i.taken c.loop-i.used c.loop-i.befores) all
+    c.loop-i.invariant in
     let passed = all_passed in
     let header = yes_of {P = HeaderInRange _ _} c.header_in_range.result c.header_in_range.ensures c.if-not-header_in_range.false in
     record {

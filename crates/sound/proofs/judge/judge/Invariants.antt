@@ -1,26 +1,17 @@
 -- `sound::judge::judge` meets its contract. The loop's invariant: each slot passed is sound alone and apart from those below it, and
 -- the sets and the marks have what the slots passed give. Assumes nothing.
 use Prim.Native.Nat.{ℕ, ◌≤◌, ◌<◌, ◌-◌}
-use mathlib.Core.Path.{◌≡◌, sym, ap, ◌∙◌, subst}
+use mathlib.Core.Path.{◌≡◌}
 use mathlib.Core.Bool.{true}
 use mathlib.Core.List.{List}
-use mathlib.Core.Logic.{⊎_elim}
-use native.Mathlib.Omega.{arith}
-use borrow.Author.Count.{below_none, below_more}
-use borrow.Author.Rules.{rules}
-use borrow.Author.Tests.{not-true, not-false}
 use lib.ListN.{length}
 use Rattle.masks.specs.Sets.{set_below}
-use Rattle.ground.proofs.Decided.{clash, yes_of, no_of, yes_not, no_not}
-use Rattle.masks.proofs.Laws as sets
 use Rattle.rules.specs.declared.Slot.{Slot}
-use Rattle.rules.specs.Table.{Sound, table_of, used, slot_at}
-use Rattle.sound.specs.SlotSound.{HeaderInRange, Alone, marked}
-use Rattle.rules.proofs.Rooms.{rooms_most}
-use Rattle.rules.proofs.Words.{room_is, has_room_used}
-use Rattle.sound.proofs.Gathered.{gathered, gathered_none, gathered_pass, gathered_more}
-use Rattle.sound.proofs.Rooms.{roomed, free_roomless, rooms_more, meets_shares, shares_meets}
-use Rattle.sound.proofs.Tested.{Tested, follows, NumberApart, sound_tested, sound_within, tested_sound, not_sound}
+use Rattle.rules.specs.Table.{used, slot_at}
+use Rattle.sound.specs.SlotSound.{marked}
+use Rattle.sound.proofs.Gathered.{gathered}
+use Rattle.sound.proofs.Rooms.{roomed}
+use Rattle.sound.proofs.Tested.{Tested, follows}
 use Rattle.sound.proofs.judge.judge.Given as goal
 
 -- the numbers of the slots below i are marked

@@ -1,8 +1,7 @@
 -- `sound::judge::sound_alone` meets its contract: each answer is what the tests before it leave of one patch. Assumes nothing.
 use mathlib.Core.Path.{sym, ◌∙◌}
 use native.Mathlib.Omega.{arith}
-use borrow.Author.Rules.{rules}
-use Rattle.ground.proofs.Decided.{clash, yes_not, no_not, no_of, yes_of}
+use Rattle.ground.proofs.Decided.{clash, no_of, yes_of}
 use Rattle.sound.proofs.judge.sound_alone.Goals as goal
 
 pub returns-then-not-in_range : goal.returns-then-not-in_range
