@@ -1,7 +1,6 @@
 -- `from_bytes::two_at` meets its contract. Assumes nothing.
 use native.Mathlib.Omega.{arith}
 use Rattle.records.proofs.Numbers.{number_2}
-use borrow.Author.Rules.{rules}
 use Rattle.records.proofs.from_bytes.two_at.Goals as goal
 
 pub returns : goal.returns

@@ -7,7 +7,6 @@ use Rattle.records.specs.declared.types.Found.TheVariants as found
 use Rattle.records.specs.declared.types.Next.{Next}
 use Rattle.records.specs.declared.types.Next.TheVariants as next
 use Rattle.records.specs.Reader.{number_at, create_in}
-use borrow.Author.Rules.{rules}
 use Rattle.records.proofs.reader.create_in.Goals as goal
 
 abbrev made : ℕ → ℕ → ℕ → ℕ → Next

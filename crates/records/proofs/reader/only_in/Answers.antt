@@ -4,7 +4,6 @@ use native.Mathlib.Omega.{arith}
 use borrow.Author.Tests.{lt-ltb, le-ltb}
 use lib.ListN.{length}
 use Rattle.records.specs.Reader.{number_at, next_in, only_in}
-use borrow.Author.Rules.{rules}
 use Rattle.records.proofs.reader.only_in.Goals as goal
 
 pub returns-then-have-lt-HEAD_BYTES : goal.returns-then-have-lt-HEAD_BYTES

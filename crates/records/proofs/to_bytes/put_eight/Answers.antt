@@ -6,7 +6,6 @@ use Rattle.spans.specs.Spans.{splice}
 use Rattle.spans.proofs.Laws.{laid}
 use Rattle.records.specs.Record.{high_first}
 use Rattle.records.proofs.Numbers.{high_8, length_4}
-use borrow.Author.Rules.{rules}
 use Rattle.records.proofs.to_bytes.put_eight.Goals as goal
 
 pub returns : goal.returns

@@ -1,7 +1,6 @@
 -- `to_bytes::put_one` meets its contract: one byte stored is one byte laid. Assumes nothing.
 use Rattle.spans.proofs.Laws.{set_one}
 use Rattle.records.specs.Record.{high_first}
-use borrow.Author.Rules.{rules}
 use Rattle.records.proofs.to_bytes.put_one.Goals as goal
 
 pub returns : goal.returns

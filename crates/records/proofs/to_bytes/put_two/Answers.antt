@@ -6,7 +6,6 @@ use Rattle.spans.specs.Spans.{splice}
 use Rattle.spans.proofs.Laws.{laid}
 use Rattle.records.specs.Record.{high_first}
 use Rattle.records.proofs.Numbers.{high_2, length_1}
-use borrow.Author.Rules.{rules}
 use Rattle.records.proofs.to_bytes.put_two.Goals as goal
 
 pub returns : goal.returns

@@ -7,7 +7,6 @@ use lib.ListN.{length}
 use Rattle.spans.specs.Spans.{splice}
 use Rattle.records.specs.Record.{high_first, record_of}
 use Rattle.records.proofs.Recorded.{wrong_size, no_fit, is_recorded}
-use borrow.Author.Rules.{rules}
 use Rattle.records.proofs.writer.block_record.Goals as goal
 
 pub returns-then-buffer-ne-RECORD_BYTES : goal.returns-then-buffer-ne-RECORD_BYTES
@@ -20,5 +19,5 @@ pub returns : goal.returns
 unfolding high_first
 returns c = λ call o.
     let a = c.args in
-    is_recorded (record_of call) c.if-buffer-ne-RECORD_BYTES.false (o.ranges (omega (arith, c.if-block-gt255.false))) (sym (ap length o.bytes))
+    is_recorded (record_of call) c.if-buffer-ne-RECORD_BYTES.false (o.fits (omega (arith, c.if-block-gt255.false))) (sym (ap length o.bytes))
     (c.put_block.ensures ∙ ap (λ (ys : List ℕ). splice a.buffer.now 0 ys) (sym o.bytes))

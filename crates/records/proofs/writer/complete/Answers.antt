@@ -1,7 +1,6 @@
 -- `writer::complete` meets its contract. Assumes nothing.
 use mathlib.Core.Path.{refl}
 use Rattle.records.specs.Record.{completes, high_first, value_of, record_of}
-use borrow.Author.Rules.{rules}
 use Rattle.records.proofs.writer.complete.Goals as goal
 
 pub returns : goal.returns

@@ -6,7 +6,6 @@ use Rattle.records.specs.Record.{high_first}
 use Rattle.records.specs.Inside.{block_bytes}
 use Rattle.records.proofs.Recorded.{wrong_size, no_fit}
 use Rattle.records.proofs.CallsMade.{recorded_alone, both_fit, recorded_both}
-use borrow.Author.Rules.{rules}
 use Rattle.records.proofs.writer.complete_write.Goals as goal
 
 pub returns-then-first-ne0 : goal.returns-then-first-ne0

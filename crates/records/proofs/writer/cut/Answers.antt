@@ -4,7 +4,6 @@ use native.Mathlib.Omega.{arith}
 use Rattle.spans.proofs.Laws.{laid}
 use Rattle.records.specs.Record.{cuts, high_first, value_of, record_of}
 use Rattle.records.proofs.Recorded.{wrong_size, is_recorded}
-use borrow.Author.Rules.{rules}
 use Rattle.records.proofs.writer.cut.Goals as goal
 
 pub returns-then-buffer-ne-RECORD_BYTES : goal.returns-then-buffer-ne-RECORD_BYTES

@@ -2,7 +2,6 @@
 use Rattle.spans.proofs.Laws.{laid}
 use Rattle.records.specs.Record.{high_first}
 use Rattle.records.proofs.Numbers.{length_1}
-use borrow.Author.Rules.{rules}
 use Rattle.records.proofs.writer.head.Goals as goal
 
 pub returns : goal.returns

@@ -2,7 +2,6 @@
 use mathlib.Core.Path.{refl}
 use Rattle.spans.proofs.Laws.{laid}
 use Rattle.records.specs.Record.{high_first}
-use borrow.Author.Rules.{rules}
 use Rattle.records.proofs.writer.put_block.Goals as goal
 
 pub returns : goal.returns

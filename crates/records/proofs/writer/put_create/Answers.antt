@@ -10,7 +10,6 @@ use Rattle.spans.proofs.Laws.{Over, laid, part_whole}
 use Rattle.rules.specs.Create.{change_of}
 use Rattle.records.specs.Record.{high_first, four_each}
 use Rattle.records.proofs.Values.{length_each, create_laid}
-use borrow.Author.Rules.{rules}
 use Rattle.records.proofs.writer.put_create.Goals as goal
 
 pub returns : goal.returns

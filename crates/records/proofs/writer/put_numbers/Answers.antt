@@ -1,5 +1,5 @@
 -- `writer::put_numbers` meets its contract: the loop has laid the first i numbers. Assumes nothing.
-use Prim.Native.Nat.{ℕ, ◌+◌, ◌-◌, ◌*◌, ◌≤◌, ◌<◌}
+use Prim.Native.Nat.{ℕ, ◌+◌, ◌*◌, ◌<◌}
 use mathlib.Core.Path.{◌≡◌, refl, sym, ap, ◌∙◌}
 use mathlib.Core.List.{List, []}
 use native.Mathlib.Omega.{arith}
@@ -9,7 +9,6 @@ use Rattle.spans.specs.Spans.{splice}
 use Rattle.spans.proofs.Laws.{splice_none, splice_on, length_splice}
 use Rattle.records.specs.Record.{high_first, four_each}
 use Rattle.records.proofs.Values.{length_each, each_more}
-use borrow.Author.Rules.{rules}
 use Rattle.records.proofs.writer.put_numbers.Goals as goal
 
 none_laid : (buffer : List ℕ) → buffer ≡ splice buffer 7 (four_each [])

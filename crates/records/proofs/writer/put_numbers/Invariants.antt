@@ -1,15 +1,9 @@
 -- `writer::put_numbers` meets its contract: the loop has laid the first i numbers. Assumes nothing.
-use Prim.Native.Nat.{ℕ, ◌+◌, ◌-◌, ◌*◌, ◌≤◌, ◌<◌}
-use mathlib.Core.Path.{◌≡◌, refl, sym, ap, ◌∙◌}
-use mathlib.Core.List.{List, []}
-use native.Mathlib.Omega.{arith}
-use lib.ListN.{length, get_or, take}
-use lib.Seq.{take-length, length-take-le}
+use Prim.Native.Nat.{◌-◌, ◌≤◌}
+use mathlib.Core.Path.{◌≡◌}
+use lib.ListN.{length, take}
 use Rattle.spans.specs.Spans.{splice}
-use Rattle.spans.proofs.Laws.{splice_none, splice_on, length_splice}
-use Rattle.records.specs.Record.{high_first, four_each}
-use Rattle.records.proofs.Values.{length_each, each_more}
-use borrow.Author.Rules.{rules}
+use Rattle.records.specs.Record.{four_each}
 use Rattle.records.proofs.writer.put_numbers.Given as goal
 
 abbrev pub invariant-loop-i : goal.invariant-loop-i
