@@ -1,0 +1,17 @@
+-- `from_bytes::slot_in` meets its contract: field by field. Assumes nothing.
+use mathlib.Core.Path.{ap₂, ◌∙◌}
+use Rattle.layout.specs.Layout.{state_of, slot_in}
+use borrow.Author.Rules.{rules}
+use Rattle.layout.proofs.RoundTrip.{same_slot}
+use Rattle.layout.proofs.from_bytes.slot_in.Goals as goal
+
+pub returns : goal.returns
+unfolding slot_in
+returns c =
+    same_slot
+    (c.state_of-state.ensures ∙ ap₂ state_of c.number_at.ensures c.number_at-2.ensures)
+    c.number_at-3.ensures
+    c.number_at-4.ensures
+    c.number_at-5.ensures
+    c.number_at-6.ensures
+    c.befores_at.ensures
