@@ -1,6 +1,6 @@
-// The seven exported functions. Each reads the table from its bytes, calls the method of `cache` on
+// The seven functions. Each reads the table from its bytes, calls the method of `cache` on
 // it and, granted, writes the next table back; the joint call does so twice. Every call writes the
-// numbers behind its pointers.
+// numbers behind its pointers. The crate `board_c` exports them.
 ghost use Rattle.std.specs.Prelude.{◌<◌, ◌≡◌};
 ghost use Rattle.std.proofs.Math.Option.{some};
 ghost use Rattle.rules.specs.Create.{change_of};
@@ -16,8 +16,7 @@ use rules::refusals::{BUFFER_SIZE, NOT_SOUND};
 use rules::sizes::{BLOCK_BYTES, IMAGE_BYTES, UNDO_BYTES};
 use rules::{Answer, AskAnswer, CountAnswer, CreateAnswer, Hold, Setting, WriteAnswer};
 
-#[unsafe(no_mangle)]
-pub extern "C" fn board_open(table: &mut [u8], first: u32) -> u32
+pub fn board_open(table: &mut [u8], first: u32) -> u32
     ensures { OpenCall table.old first result table.new }
 {
     if table.len() != TABLE_BYTES {
@@ -43,8 +42,7 @@ fn hold_number(h: Hold) -> u32
     }
 }
 
-#[unsafe(no_mangle)]
-pub extern "C" fn board_create(
+pub fn board_create(
     table: &mut [u8],
     image: &mut [u8],
     undo: &mut [u8],
@@ -131,8 +129,7 @@ fn write_table(
     }
 }
 
-#[unsafe(no_mangle)]
-pub extern "C" fn board_write(
+pub fn board_write(
     table: &mut [u8],
     image: &[u8],
     undo: &[u8],
@@ -187,8 +184,7 @@ fn complete_table(table: &mut [u8], block: u32) -> u32
     }
 }
 
-#[unsafe(no_mangle)]
-pub extern "C" fn board_complete(table: &mut [u8], block: u32) -> u32
+pub fn board_complete(table: &mut [u8], block: u32) -> u32
     ensures { CompleteCall table.old block result table.new }
 {
     if !is_table(table) {
@@ -202,8 +198,7 @@ const NOT_TRIED: u32 = 4294967295;
 
 // Not by the method of `cache` that is the joint call: with two callers each, its completion and its write would no
 // longer be made in place here, and every copy of the table between them takes stack.
-#[unsafe(no_mangle)]
-pub extern "C" fn board_complete_write(
+pub fn board_complete_write(
     table: &mut [u8],
     image: &[u8],
     undo: &[u8],
@@ -237,8 +232,7 @@ pub extern "C" fn board_complete_write(
     0
 }
 
-#[unsafe(no_mangle)]
-pub extern "C" fn board_ask(table: &[u8], asked: u32, state: &mut u32) -> u32
+pub fn board_ask(table: &[u8], asked: u32, state: &mut u32) -> u32
     ensures { AskCall table.now asked result state.new }
 {
     *state = 0;
@@ -264,8 +258,7 @@ pub extern "C" fn board_ask(table: &[u8], asked: u32, state: &mut u32) -> u32
     }
 }
 
-#[unsafe(no_mangle)]
-pub extern "C" fn board_count(table: &[u8], block: u32, count: &mut u32) -> u32
+pub fn board_count(table: &[u8], block: u32, count: &mut u32) -> u32
     ensures { CountCall table.now block result count.new }
 {
     *count = 0;

@@ -1,6 +1,6 @@
-// The writer of records for C and Rust: five exported functions, one for each call that a trace has,
+// The writer of records for C and Rust: five functions, one for each call that a trace has,
 // and one for the joint call, which is recorded as the calls it made. They know no table: a record
-// says what was asked, so a refused call has one like a granted one.
+// says what was asked, so a refused call has one like a granted one. The crate `board_c` exports them.
 ghost use Rattle.std.specs.Prelude.{◌≤◌, ◌≡◌};
 ghost use Rattle.rules.specs.Create.{change_of};
 ghost use Rattle.records.specs.Record.{record_bytes, opens, creates, writes, completes, cuts};
@@ -29,8 +29,7 @@ fn length_of(a: Recorded) -> u32
     }
 }
 
-#[unsafe(no_mangle)]
-pub extern "C" fn board_record_open(buffer: &mut [u8], first: u32, length: &mut u32) -> u32
+pub fn board_record_open(buffer: &mut [u8], first: u32, length: &mut u32) -> u32
     ensures { RecordCall buffer.old (opens first)
         (record { refusal = result; length = length.new; buffer = buffer.new }) }
 {
@@ -39,8 +38,7 @@ pub extern "C" fn board_record_open(buffer: &mut [u8], first: u32, length: &mut 
     refusal_of(answer)
 }
 
-#[unsafe(no_mangle)]
-pub extern "C" fn board_record_create(
+pub fn board_record_create(
     buffer: &mut [u8],
     block: u32,
     offset: u32,
@@ -56,8 +54,7 @@ pub extern "C" fn board_record_create(
     refusal_of(answer)
 }
 
-#[unsafe(no_mangle)]
-pub extern "C" fn board_record_write(buffer: &mut [u8], block: u32, length: &mut u32) -> u32
+pub fn board_record_write(buffer: &mut [u8], block: u32, length: &mut u32) -> u32
     ensures { RecordCall buffer.old (writes block)
         (record { refusal = result; length = length.new; buffer = buffer.new }) }
 {
@@ -66,8 +63,7 @@ pub extern "C" fn board_record_write(buffer: &mut [u8], block: u32, length: &mut
     refusal_of(answer)
 }
 
-#[unsafe(no_mangle)]
-pub extern "C" fn board_record_complete(buffer: &mut [u8], block: u32, length: &mut u32) -> u32
+pub fn board_record_complete(buffer: &mut [u8], block: u32, length: &mut u32) -> u32
     ensures { RecordCall buffer.old (completes block)
         (record { refusal = result; length = length.new; buffer = buffer.new }) }
 {
@@ -77,8 +73,7 @@ pub extern "C" fn board_record_complete(buffer: &mut [u8], block: u32, length: &
 }
 
 // `first` is what completing answered.
-#[unsafe(no_mangle)]
-pub extern "C" fn board_record_complete_write(
+pub fn board_record_complete_write(
     buffer: &mut [u8],
     x: u32,
     y: u32,
@@ -94,8 +89,7 @@ pub extern "C" fn board_record_complete_write(
 }
 
 // Bit b of `landed` is set when block b's write in flight landed.
-#[unsafe(no_mangle)]
-pub extern "C" fn board_record_cut(buffer: &mut [u8], landed: u64, length: &mut u32) -> u32
+pub fn board_record_cut(buffer: &mut [u8], landed: u64, length: &mut u32) -> u32
     ensures { RecordCall buffer.old (cuts landed)
         (record { refusal = result; length = length.new; buffer = buffer.new }) }
 {
