@@ -1,0 +1,26 @@
+-- `calls::complete_table` meets its contract. Assumes nothing.
+use Prim.Native.Nat.{ℕ}
+use mathlib.Core.Path.{◌≡◌, ◌∙◌}
+use Rattle.cache.specs.Seen.{seen, completion}
+use Rattle.layout.specs.Layout.{IsTable, table_in}
+use Rattle.layout.proofs.Length.{read_whole, stored_whole}
+use Rattle.board.proofs.Answers.{complete_granted_here, complete_refused_here}
+use borrow.Author.Rules.{rules}
+use Rattle.board.proofs.calls.complete_table.Goals as goal
+
+pub returns-then-table-ne-TABLE_BYTES : goal.returns-then-table-ne-TABLE_BYTES
+returns-then-table-ne-TABLE_BYTES c = absurd (c.if-table-ne-TABLE_BYTES.true c.requires.size)
+
+pub returns-in-Granted : goal.returns-in-Granted
+returns-in-Granted c =
+    let table_here = c.requires in
+    let seen_here = c.table_in-came.ensures ∙ read_whole _ table_here.size in
+    complete_granted_here (completion c.complete-o.result) table_here seen_here c.complete-o.ensures c.in-Granted.is
+    (c.store.ensures ∙ stored_whole _ _ table_here.size)
+
+pub returns-in-Refused : goal.returns-in-Refused
+returns-in-Refused c =
+    let table_here = c.requires in
+    let seen_here = c.table_in-came.ensures ∙ read_whole _ table_here.size in
+    complete_refused_here (completion c.complete-o.result) table_here seen_here c.complete-o.ensures c.in-Refused.k
+    c.in-Refused.is

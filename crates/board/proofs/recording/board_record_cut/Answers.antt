@@ -1,0 +1,14 @@
+-- `recording::board_record_cut` meets its contract. Assumes nothing.
+use Rattle.records.specs.Record.{cuts}
+use Rattle.records.specs.Writer.{recording}
+use Rattle.records.proofs.OneAnswer.{record_short}
+use Rattle.board.proofs.Recorded.{recorded_call}
+use borrow.Author.Rules.{rules}
+use Rattle.board.proofs.recording.board_record_cut.Goals as goal
+
+pub length_of-requires : goal.length_of-requires
+length_of-requires c = record_short _ (cuts _) (recording _ _) c.cut-answer.ensures
+
+pub returns : goal.returns
+returns c =
+    recorded_call _ (cuts _) _ c.cut-answer.ensures c.refusal_of.ensures c.length_of.ensures
