@@ -51,9 +51,9 @@ module _ (r : Run) (has : HasRun r) (x y : ℕ) (lent : List ℕ) where
           subst (CallsMade r x y lent) (sym (ap (run_joint r x y) same ∙ went between p w q)) (CallsMade.both between p w q)
 
 -- the calls made are calls of a run
-made_on : {r r' : Run} {x y : ℕ} {lent : List ℕ} → CallsMade r x y lent r' → RunsOn r r'
-made_on {r} {r'} {x} {y} {lent} (CallsMade.completion k p n) = RunsOn.then RunsOn.now (RunCall.completes x k r.bytes p)
-made_on {r} {r'} {x} {y} {lent} (CallsMade.both between p w q) =
+made_on : {r : Run} {x y : ℕ} {lent : List ℕ} {r' : Run} → CallsMade r x y lent r' → RunsOn r r'
+made_on {r} {x} {y} {lent} {r'} (CallsMade.completion k p n) = RunsOn.then RunsOn.now (RunCall.completes x k r.bytes p)
+made_on {r} {x} {y} {lent} {r'} (CallsMade.both between p w q) =
     RunsOn.then (RunsOn.then RunsOn.now (RunCall.completes x 0 between p)) (RunCall.writes y lent w q)
 
 on_has_run : {r r' : Run} → HasRun r → RunsOn r r' → HasRun r'
