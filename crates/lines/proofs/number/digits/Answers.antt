@@ -1,20 +1,10 @@
 -- `number::digits` meets its contract: with each digit that is left out the count has one more. Assumes nothing.
-use Prim.Native.Nat.{◌+◌}
-use mathlib.Core.Path.{◌≡◌}
 use native.Mathlib.Omega.{arith}
-use lib.ListN.{length}
-use Rattle.lines.specs.Decimal.{decimal}
 use Rattle.lines.proofs.Digits.{length_one, length_more, at_most_20}
 use Rattle.lines.proofs.number.digits.Goals as goal
 
-pub loop-rest-init : goal.loop-rest-init
-loop-rest-init c = omega arith
-
 pub overflow_add-k : goal.overflow_add-k
-overflow_add-k c =omega (arith, at_most_20 c.args.n c.ranges.n.fits)
-
-pub loop-rest-smaller : goal.loop-rest-smaller
-loop-rest-smaller c = omega arith
+overflow_add-k c = omega (arith, at_most_20 c.args.n c.ranges.n.fits)
 
 pub loop-rest-preserved : goal.loop-rest-preserved
 loop-rest-preserved c = omega (arith, length_more c.loop-rest.rest c.loop-rest-test.true)

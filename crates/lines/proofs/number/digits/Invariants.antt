@@ -1,10 +1,8 @@
 -- `number::digits` meets its contract: with each digit that is left out the count has one more. Assumes nothing.
 use Prim.Native.Nat.{◌+◌}
 use mathlib.Core.Path.{◌≡◌}
-use native.Mathlib.Omega.{arith}
 use lib.ListN.{length}
 use Rattle.lines.specs.Decimal.{decimal}
-use Rattle.lines.proofs.Digits.{length_one, length_more, at_most_20}
 use Rattle.lines.proofs.number.digits.Given as goal
 
 abbrev pub invariant-loop-rest : goal.invariant-loop-rest

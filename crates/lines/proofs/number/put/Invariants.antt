@@ -1,16 +1,11 @@
 -- `number::put` meets its contract. Before each turn, with the last i digits of what is left of the number laid, the bytes would be as promised.
 -- Assumes nothing.
-use Prim.Native.Nat.{ℕ, ◌+◌, ◌≤◌}
-use mathlib.Core.Path.{◌≡◌, refl, sym, ap, ◌∙◌}
-use mathlib.Core.List.{List}
-use native.Mathlib.Omega.{arith}
-use borrow.Author.Rules.{rules}
-use lib.ListN.{length, length-set}
+use Prim.Native.Nat.{◌≤◌}
+use mathlib.Core.Path.{◌≡◌}
+use lib.ListN.{length}
 use Rattle.spans.specs.Spans.{splice}
-use Rattle.spans.proofs.Laws.{splice_none}
 use Rattle.lines.specs.Decimal.{decimal}
-use Rattle.lines.proofs.Digits.{at_most_20}
-use Rattle.lines.proofs.FromTheRight.{last_digits, all_digits, one_stored}
+use Rattle.lines.proofs.FromTheRight.{last_digits}
 use Rattle.lines.proofs.number.put.Given as goal
 
 abbrev pub invariant-loop-i : goal.invariant-loop-i

@@ -2,7 +2,6 @@
 use mathlib.Core.Path.{refl, ap, ◌∙◌}
 use mathlib.Core.List.{List}
 use Prim.Native.Nat.{ℕ}
-use borrow.Author.Rules.{rules}
 use Rattle.spans.specs.Spans.{splice}
 use Rattle.spans.proofs.Laws.{part_whole}
 use Rattle.lines.proofs.text.put.Goals as goal

@@ -2,7 +2,6 @@
 use mathlib.Core.Path.{◌≡◌, sym, ap}
 use mathlib.Core.List.{◌++◌}
 use native.Mathlib.Omega.{arith}
-use borrow.Author.Rules.{rules}
 use Rattle.rules.specs.declared.Hold.{Hold}
 use Rattle.lines.specs.Line.{space, hold_text}
 use Rattle.lines.proofs.Steps.{same_text}
@@ -14,10 +13,14 @@ said e = sym (ap (λ (h : Hold). space ++ hold_text h) e)
 
 pub returns-in-Hard : goal.returns-in-Hard
 unfolding hold_text
-returns-in-Hard c =
-    (same_text c.put.ensures (said c.in-Hard.is), omega (arith, c.put.ensures.next))
+returns-in-Hard c = record {
+  laid = same_text c.put.ensures (said c.in-Hard.is);
+  upper_bound = omega (arith, c.put.ensures.next);
+}
 
 pub returns-in-Soft : goal.returns-in-Soft
 unfolding hold_text
-returns-in-Soft c =
-    (same_text c.put-in-Soft.ensures (said c.in-Soft.is), omega (arith, c.put-in-Soft.ensures.next))
+returns-in-Soft c = record {
+  laid = same_text c.put-in-Soft.ensures (said c.in-Soft.is);
+  upper_bound = omega (arith, c.put-in-Soft.ensures.next);
+}
