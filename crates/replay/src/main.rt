@@ -3,14 +3,15 @@
 // input is. What a line says is proved in `trace`; here bytes are only moved.
 #![tactic(auto)]
 
-ghost use Rattle.std.specs.Prelude.{◌≤◌, length};
+ghost use Rattle.std.specs.Prelude.{◌≤◌, length, IfOk};
+ghost use Rattle.std.specs.Io.{ReadsAtMost};
 
-use libc::{STDIN_FILENO, STDOUT_FILENO};
 use lines::LINE_BYTES;
 use records::reader::next_in;
 use records::sizes::RECORD_BYTES;
 use records::types::Next;
 use rules::sizes::{IMAGE_BYTES, UNDO_BYTES};
+use std::io::{self, ErrorKind, Read};
 use trace::run::{start, step};
 use trace::types::{Kept, Phase};
 
@@ -24,19 +25,42 @@ fn wanted(bytes: &[u8]) -> usize {
     }
 }
 
+// Reads until the bytes are full or the input ends, and answers how many have come. A signal that breaks
+// into a read is no end, so such a read is tried again. The loop ends as main's does.
+fn read_full(input: &mut impl Read, bytes: &mut [u8]) -> io::Result<usize>
+    ensures { ReadsAtMost result bytes.new }
+{
+    let mut have = 0;
+    for _ in 0..u64::MAX {
+        if have == bytes.len() {
+            break;
+        }
+        match input.read(&mut bytes[have..]) {
+            Ok(0) => break,
+            Ok(n) => have += n,
+            Err(e) => {
+                if e.kind() != ErrorKind::Interrupted {
+                    return Err(e);
+                }
+            }
+        }
+    }
+    Ok(have)
+}
+
 // Reads what is still to come behind the first `have` bytes, and answers how many are there then: fewer
 // than wanted where the input has ended.
-fn read_on(bytes: &mut [u8], have: usize) -> usize
-    ensures { result ≤ length bytes.new }
+fn read_on(input: &mut impl Read, bytes: &mut [u8], have: usize) -> io::Result<usize>
+    ensures { IfOk result (λ n. n ≤ length bytes.new) }
 {
     if bytes.len() < have {
-        return 0;
+        return Ok(0);
     }
     let k = wanted(&bytes[..have]);
     if bytes.len() - have < k {
-        return have;
+        return Ok(have);
     }
-    have + io::read_full(STDIN_FILENO, &mut bytes[have..have + k])
+    Ok(have + read_full(input, &mut bytes[have..have + k])?)
 }
 
 // Whether the first record, open, has come.
@@ -56,44 +80,51 @@ struct Turned {
 }
 
 // Reads one record and writes its line.
-fn turn(kept: Kept, image: &mut [u8], undo: &mut [u8], bytes: &mut [u8]) -> Turned {
+fn turn(
+    rt: &impl Print,
+    input: &mut impl Read,
+    kept: Kept,
+    image: &mut [u8],
+    undo: &mut [u8],
+    bytes: &mut [u8],
+) -> io::Result<Turned> {
     let phase = kept.phase;
-    let head = read_on(bytes, 0);
-    let n = read_on(bytes, head);
+    let head = read_on(input, bytes, 0)?;
+    let n = read_on(input, bytes, head)?;
     if n == 0 {
         if is_begun(phase) {
-            return Turned {
+            return Ok(Turned {
                 kept,
                 goes_on: false,
-            };
+            });
         }
     }
     let mut line = [0u8; LINE_BYTES];
     let s = step(kept, image, undo, &bytes[..n], &mut line);
     let length = s.length;
     let next = s.kept;
-    io::write_all(STDOUT_FILENO, &line[..length]);
-    Turned {
+    rt.write_all(&line[..length])?;
+    Ok(Turned {
         kept: next,
         goes_on: !s.bad,
-    }
+    })
 }
 
-// A proved loop has to end, and nothing says that an input does. So the loop counts its turns down, from a
+// A proved loop has to end, and nothing says that an input does. So the loop counts its turns, up to a
 // number that no run uses up.
-fn main() {
+fn main(rt: HostRuntime) -> io::Result<()> {
+    let mut input = rt.reader();
     let mut image = [0u8; IMAGE_BYTES];
     let mut undo = [0u8; UNDO_BYTES];
     let mut bytes = [0u8; RECORD_BYTES];
     let mut kept = start();
-    let mut turns = u64::MAX;
-    while turns > 0 {
-        let t = turn(kept, &mut image, &mut undo, &mut bytes);
+    for _ in 0..u64::MAX {
+        let t = turn(&rt, &mut input, kept, &mut image, &mut undo, &mut bytes)?;
         if !t.goes_on {
-            return;
+            return Ok(());
         }
         let next = t.kept;
         kept = next;
-        turns -= 1;
     }
+    Ok(())
 }

@@ -5,6 +5,7 @@ use crate::changes::{BITMAP, GROUP, INODE, MANY, Run, SUPER, change, opened};
 use crate::{counts, say};
 use rules::Setting;
 use rules::sizes::{IMAGE_BYTES, UNDO_BYTES};
+use std::io;
 
 // One block: d follows b, i follows b and d, d' lies over d, i' follows d'.
 fn block(
@@ -49,18 +50,24 @@ fn all(
 }
 
 // On an image of zeros; `words` say which setting it is.
-pub fn run(setting: Setting, words: &[u8], few: &mut [u8; UNDO_BYTES], many: &mut [u8; MANY]) {
+pub fn run(
+    rt: &impl Print,
+    setting: Setting,
+    words: &[u8],
+    few: &mut [u8; UNDO_BYTES],
+    many: &mut [u8; MANY],
+) -> io::Result<()> {
     let mut image = [0u8; IMAGE_BYTES];
     let end = all(setting, &mut image, few, many);
     let t = end.table;
     let left = counts::drain(t, &image, few, many);
     let rest = left.table;
-    say::text(words);
-    say::field(b": changes ", end.accepted);
-    say::field(b", hard ", end.hard);
-    say::field(b", entries ", counts::entries(t));
-    say::field(b", undo bytes ", counts::bytes_kept(t));
-    say::field(b", writes that drain it ", left.writes);
-    say::field(b", blocks that wait then ", counts::waiting(rest));
-    say::text(b"\n");
+    say::text(rt, words)?;
+    say::field(rt, b": changes ", end.accepted)?;
+    say::field(rt, b", hard ", end.hard)?;
+    say::field(rt, b", entries ", counts::entries(t))?;
+    say::field(rt, b", undo bytes ", counts::bytes_kept(t))?;
+    say::field(rt, b", writes that drain it ", left.writes)?;
+    say::field(rt, b", blocks that wait then ", counts::waiting(rest))?;
+    say::text(rt, b"\n")
 }

@@ -7,6 +7,7 @@ use crate::say;
 use cache::types::Table;
 use rules::sizes::{BLOCK_BYTES, IMAGE_BYTES, UNDO_BYTES};
 use rules::{Setting, WriteAnswer};
+use std::io;
 
 fn all(
     setting: Setting,
@@ -32,46 +33,54 @@ fn all(
     change(i2, image, few, many, BITMAP, 1, &[2], &[i2.number])
 }
 
-fn said(a: WriteAnswer) {
+fn said(rt: &impl Print, a: WriteAnswer) -> io::Result<()> {
     match a {
-        WriteAnswer::Granted(_) => say::text(b"granted"),
-        WriteAnswer::Refused(k) => say::field(b"refused ", k),
+        WriteAnswer::Granted(_) => say::text(rt, b"granted"),
+        WriteAnswer::Refused(k) => say::field(rt, b"refused ", k),
     }
 }
 
 // A write of the block, with its first two bytes as handed out, and its completion.
 fn step(
+    rt: &impl Print,
     t: Table,
     image: &[u8; IMAGE_BYTES],
     few: &[u8; UNDO_BYTES],
     many: &[u8; MANY],
     words: &[u8],
     block: u32,
-) -> Table {
+) -> io::Result<Table> {
     let mut handed = [0u8; BLOCK_BYTES];
     let o = written(t, image, few, many, &mut handed, block);
     let a = o.answer;
     let sent = o.table;
     let c = sent.complete(block);
-    say::text(words);
-    said(a);
-    say::byte(b"; first bytes ", handed[0]);
-    say::byte(b" ", handed[1]);
-    say::text(b"\n");
+    say::text(rt, words)?;
+    said(rt, a)?;
+    say::byte(rt, b"; first bytes ", handed[0])?;
+    say::byte(rt, b" ", handed[1])?;
+    say::text(rt, b"\n")?;
     let table = c.table;
-    table
+    Ok(table)
 }
 
 // On an image of zeros; `words` say which setting it is.
-pub fn run(setting: Setting, words: &[u8], few: &mut [u8; UNDO_BYTES], many: &mut [u8; MANY]) {
+pub fn run(
+    rt: &impl Print,
+    setting: Setting,
+    words: &[u8],
+    few: &mut [u8; UNDO_BYTES],
+    many: &mut [u8; MANY],
+) -> io::Result<()> {
     let mut image = [0u8; IMAGE_BYTES];
     let end = all(setting, &mut image, few, many);
     let mut t = end.table;
-    say::text(words);
-    say::text(b":\n");
-    t = step(t, &image, few, many, b"  write inode block: ", INODE);
-    t = step(t, &image, few, many, b"  write bitmap block: ", BITMAP);
-    t = step(t, &image, few, many, b"  write data block: ", DATA);
-    t = step(t, &image, few, many, b"  write inode block: ", INODE);
-    step(t, &image, few, many, b"  write bitmap block: ", BITMAP);
+    say::text(rt, words)?;
+    say::text(rt, b":\n")?;
+    t = step(rt, t, &image, few, many, b"  write inode block: ", INODE)?;
+    t = step(rt, t, &image, few, many, b"  write bitmap block: ", BITMAP)?;
+    t = step(rt, t, &image, few, many, b"  write data block: ", DATA)?;
+    t = step(rt, t, &image, few, many, b"  write inode block: ", INODE)?;
+    step(rt, t, &image, few, many, b"  write bitmap block: ", BITMAP)?;
+    Ok(())
 }

@@ -12,30 +12,49 @@ mod say;
 use changes::MANY;
 use rules::Setting;
 use rules::sizes::UNDO_BYTES;
+use std::io;
 
-fn main() {
+fn main(rt: HostRuntime) -> io::Result<()> {
     let mut few = [7u8; UNDO_BYTES];
     let mut many = [7u8; MANY];
-    say::text(b"Figure 3: a file grows by four blocks\n");
+    say::text(&rt, b"Figure 3: a file grows by four blocks\n")?;
     append::run(
+        &rt,
         Setting::AllSoft,
         b"every patch soft, no joining",
         &mut few,
         &mut many,
-    );
+    )?;
     append::run(
+        &rt,
         Setting::HardRule,
         b"the hard rule, no joining",
         &mut few,
         &mut many,
-    );
-    append::run(Setting::Board, b"the board's setting", &mut few, &mut many);
-    say::text(b"\nFigure 2b: a file is removed before that has committed\n");
+    )?;
+    append::run(
+        &rt,
+        Setting::Board,
+        b"the board's setting",
+        &mut few,
+        &mut many,
+    )?;
+    say::text(
+        &rt,
+        b"\nFigure 2b: a file is removed before that has committed\n",
+    )?;
     circle::run(
+        &rt,
         Setting::HardRule,
         b"the hard rule, no joining",
         &mut few,
         &mut many,
-    );
-    circle::run(Setting::Board, b"the board's setting", &mut few, &mut many);
+    )?;
+    circle::run(
+        &rt,
+        Setting::Board,
+        b"the board's setting",
+        &mut few,
+        &mut many,
+    )
 }

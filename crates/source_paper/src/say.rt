@@ -1,15 +1,15 @@
 // Words and numbers on standard output.
-use libc::STDOUT_FILENO;
+use std::io;
 
-pub fn text(words: &[u8]) {
-    io::write_all(STDOUT_FILENO, words);
+pub fn text(rt: &impl Print, words: &[u8]) -> io::Result<()> {
+    rt.write_all(words)
 }
 
-pub fn field(words: &[u8], n: u32) {
-    text(words);
-    io::print_decimal(STDOUT_FILENO, n as u64);
+pub fn field(rt: &impl Print, words: &[u8], n: u32) -> io::Result<()> {
+    text(rt, words)?;
+    rt.print(n)
 }
 
-pub fn byte(words: &[u8], b: u8) {
-    field(words, b as u32);
+pub fn byte(rt: &impl Print, words: &[u8], b: u8) -> io::Result<()> {
+    field(rt, words, b as u32)
 }

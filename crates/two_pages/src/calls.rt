@@ -6,58 +6,61 @@ use rules::sizes::{BLOCK_BYTES, IMAGE_BYTES, LAST_SLOT, UNDO_BYTES};
 use rules::{
     Answer, AskAnswer, CountAnswer, CreateAnswer, Hold, SecondAnswer, Setting, State, WriteAnswer,
 };
+use std::io;
 
-fn refused(k: u32) {
-    say::field(b"refused ", k);
-    say::reason(k);
+fn refused(rt: &impl Print, k: u32) -> io::Result<()> {
+    say::field(rt, b"refused ", k)?;
+    say::reason(rt, k)
 }
 
-fn hold(h: Hold) {
+fn hold(rt: &impl Print, h: Hold) -> io::Result<()> {
     match h {
-        Hold::Hard => say::text(b" hard"),
-        Hold::Soft(r) => say::field(b" soft room ", r),
+        Hold::Hard => say::text(rt, b" hard"),
+        Hold::Soft(r) => say::field(rt, b" soft room ", r),
     }
 }
 
-fn granted_or(a: Answer) {
+fn granted_or(rt: &impl Print, a: Answer) -> io::Result<()> {
     match a {
-        Answer::Granted => say::text(b"granted"),
-        Answer::Refused(k) => refused(k),
+        Answer::Granted => say::text(rt, b"granted"),
+        Answer::Refused(k) => refused(rt, k),
     }
 }
 
-pub fn open(row: Row, first: u32) -> Table {
+pub fn open(rt: &impl Print, row: Row, first: u32) -> io::Result<Table> {
     let o = Table::open(Setting::Board, first);
     let answer = o.answer;
     let table = o.table;
-    say::label(row);
-    say::field(b" open first ", first);
-    say::text(b": ");
-    granted_or(answer);
-    say::field(b" first ", table.first);
-    say::field(b" next ", table.next);
-    say::text(b"\n");
-    table
+    say::label(rt, row)?;
+    say::field(rt, b" open first ", first)?;
+    say::text(rt, b": ")?;
+    granted_or(rt, answer)?;
+    say::field(rt, b" first ", table.first)?;
+    say::field(rt, b" next ", table.next)?;
+    say::text(rt, b"\n")?;
+    Ok(table)
 }
 
-fn created(a: CreateAnswer) {
+fn created(rt: &impl Print, a: CreateAnswer) -> io::Result<()> {
     match a {
         CreateAnswer::Granted(n, h) => {
-            say::field(b"number ", n);
-            hold(h);
+            say::field(rt, b"number ", n)?;
+            hold(rt, h)
         }
-        CreateAnswer::Refused(k) => refused(k),
+        CreateAnswer::Refused(k) => refused(rt, k),
     }
 }
 
-fn after(named: &[u32]) {
+fn after(rt: &impl Print, named: &[u32]) -> io::Result<()> {
     if named.len() != 0 {
-        say::text(b" after");
-        say::numbers(named);
+        say::text(rt, b" after")?;
+        say::numbers(rt, named)?;
     }
+    Ok(())
 }
 
 pub fn create(
+    rt: &impl Print,
     t: Table,
     image: &mut [u8; IMAGE_BYTES],
     undo: &mut [u8; UNDO_BYTES],
@@ -66,151 +69,160 @@ pub fn create(
     offset: u32,
     bytes: &[u8],
     named: &[u32],
-) -> Table {
+) -> io::Result<Table> {
     let o = t.create(image, undo, block, offset, bytes, named);
     let answer = o.answer;
     let table = o.table;
-    say::label(row);
-    say::field(b" create block ", block);
-    say::field(b" offset ", offset);
-    say::text(b" bytes");
-    say::runs(bytes);
-    after(named);
-    say::text(b": ");
-    created(answer);
-    say::text(b"\n");
-    table
+    say::label(rt, row)?;
+    say::field(rt, b" create block ", block)?;
+    say::field(rt, b" offset ", offset)?;
+    say::text(rt, b" bytes")?;
+    say::runs(rt, bytes)?;
+    after(rt, named)?;
+    say::text(rt, b": ")?;
+    created(rt, answer)?;
+    say::text(rt, b"\n")?;
+    Ok(table)
 }
 
-fn sent(a: WriteAnswer) {
+fn sent(rt: &impl Print, a: WriteAnswer) -> io::Result<()> {
     match a {
         WriteAnswer::Granted(set) => {
-            say::text(b"slots");
-            say::set(set);
+            say::text(rt, b"slots")?;
+            say::set(rt, set)
         }
-        WriteAnswer::Refused(k) => refused(k),
+        WriteAnswer::Refused(k) => refused(rt, k),
     }
 }
 
 // The block lent holds 9s, and a refusal leaves it so.
 pub fn write(
+    rt: &impl Print,
     t: Table,
     image: &[u8; IMAGE_BYTES],
     undo: &[u8; UNDO_BYTES],
     row: Row,
     block: u32,
-) -> Table {
+) -> io::Result<Table> {
     let mut handed = [9u8; BLOCK_BYTES];
     let o = t.write(image, undo, &mut handed, block);
     let answer = o.answer;
     let table = o.table;
-    say::label(row);
-    say::field(b" write block ", block);
-    say::text(b": ");
-    sent(answer);
-    say::text(b";");
-    say::runs(&handed);
-    say::text(b"\n");
-    table
+    say::label(rt, row)?;
+    say::field(rt, b" write block ", block)?;
+    say::text(rt, b": ")?;
+    sent(rt, answer)?;
+    say::text(rt, b";")?;
+    say::runs(rt, &handed)?;
+    say::text(rt, b"\n")?;
+    Ok(table)
 }
 
-pub fn complete(t: Table, row: Row, block: u32) -> Table {
+pub fn complete(rt: &impl Print, t: Table, row: Row, block: u32) -> io::Result<Table> {
     let o = t.complete(block);
     let answer = o.answer;
     let table = o.table;
-    say::label(row);
-    say::field(b" complete block ", block);
-    say::text(b": ");
-    granted_or(answer);
-    say::text(b"\n");
-    table
+    say::label(rt, row)?;
+    say::field(rt, b" complete block ", block)?;
+    say::text(rt, b": ")?;
+    granted_or(rt, answer)?;
+    say::text(rt, b"\n")?;
+    Ok(table)
 }
 
-fn second(a: SecondAnswer) {
+fn second(rt: &impl Print, a: SecondAnswer) -> io::Result<()> {
     match a {
         SecondAnswer::Granted(set) => {
-            say::text(b"slots");
-            say::set(set);
+            say::text(rt, b"slots")?;
+            say::set(rt, set)
         }
-        SecondAnswer::Refused(k) => refused(k),
-        SecondAnswer::NotTried => say::text(b"not tried"),
+        SecondAnswer::Refused(k) => refused(rt, k),
+        SecondAnswer::NotTried => say::text(rt, b"not tried"),
     }
 }
 
 // The joint call. The block lent holds 9s here too.
-pub fn complete_write(t: Table, image: &[u8], undo: &[u8], row: Row, x: u32, y: u32) -> Table {
+pub fn complete_write(
+    rt: &impl Print,
+    t: Table,
+    image: &[u8],
+    undo: &[u8],
+    row: Row,
+    x: u32,
+    y: u32,
+) -> io::Result<Table> {
     let mut handed = [9u8; BLOCK_BYTES];
     let o = t.complete_write(image, undo, &mut handed, x, y);
     let completed = o.first;
     let wrote = o.second;
     let table = o.table;
-    say::label(row);
-    say::field(b" complete block ", x);
-    say::field(b", write block ", y);
-    say::text(b": ");
-    granted_or(completed);
-    say::text(b", ");
-    second(wrote);
-    say::text(b";");
-    say::runs(&handed);
-    say::text(b"\n");
-    table
+    say::label(rt, row)?;
+    say::field(rt, b" complete block ", x)?;
+    say::field(rt, b", write block ", y)?;
+    say::text(rt, b": ")?;
+    granted_or(rt, completed)?;
+    say::text(rt, b", ")?;
+    second(rt, wrote)?;
+    say::text(rt, b";")?;
+    say::runs(rt, &handed)?;
+    say::text(rt, b"\n")?;
+    Ok(table)
 }
 
-fn state(u: State) {
+fn state(rt: &impl Print, u: State) -> io::Result<()> {
     match u {
-        State::Free => say::text(b" free"),
+        State::Free => say::text(rt, b" free"),
         State::Waiting(h) => {
-            say::text(b" waiting");
-            hold(h);
+            say::text(rt, b" waiting")?;
+            hold(rt, h)
         }
-        State::InFlight(_) => say::text(b" in flight"),
+        State::InFlight(_) => say::text(rt, b" in flight"),
     }
 }
 
-pub fn count(t: Table, row: Row, block: u32) {
+pub fn count(rt: &impl Print, t: Table, row: Row, block: u32) -> io::Result<()> {
     let answer = t.count(block);
-    say::label(row);
-    say::field(b" count block ", block);
-    say::text(b": ");
+    say::label(rt, row)?;
+    say::field(rt, b" count block ", block)?;
+    say::text(rt, b": ")?;
     match answer {
-        CountAnswer::Granted(n) => say::field(b"waiting ", n),
-        CountAnswer::Refused(k) => refused(k),
+        CountAnswer::Granted(n) => say::field(rt, b"waiting ", n)?,
+        CountAnswer::Refused(k) => refused(rt, k)?,
     }
-    say::text(b"\n");
+    say::text(rt, b"\n")
 }
 
-pub fn ask(t: Table, row: Row, number: u32) {
+pub fn ask(rt: &impl Print, t: Table, row: Row, number: u32) -> io::Result<()> {
     let answer = t.ask(number);
-    say::label(row);
-    say::field(b" ask ", number);
-    say::text(b": ");
+    say::label(rt, row)?;
+    say::field(rt, b" ask ", number)?;
+    say::text(rt, b": ")?;
     match answer {
-        AskAnswer::Waiting => say::text(b"waiting"),
-        AskAnswer::InFlight => say::text(b"in flight"),
-        AskAnswer::Committed => say::text(b"committed"),
-        AskAnswer::Refused(k) => refused(k),
+        AskAnswer::Waiting => say::text(rt, b"waiting")?,
+        AskAnswer::InFlight => say::text(rt, b"in flight")?,
+        AskAnswer::Committed => say::text(rt, b"committed")?,
+        AskAnswer::Refused(k) => refused(rt, k)?,
     }
-    say::text(b"\n");
+    say::text(rt, b"\n")
 }
 
 // No call: the patch in slot i, as the table has it, with the slots that it follows.
-pub fn slot(t: Table, row: Row, i: usize) {
+pub fn slot(rt: &impl Print, t: Table, row: Row, i: usize) -> io::Result<()> {
     if LAST_SLOT < i {
-        return;
+        return Ok(());
     }
     let s = t.slots[i];
     let u = s.state;
-    say::label(row);
-    say::text(b" slot");
-    say::set(masks::with(0, i));
-    say::field(b": number ", s.number);
-    state(u);
-    say::field(b", offset ", s.offset);
-    say::field(b" length ", s.len);
-    say::text(b", follows slots");
-    say::set(s.befores);
-    say::text(b"\n");
+    say::label(rt, row)?;
+    say::text(rt, b" slot")?;
+    say::set(rt, masks::with(0, i))?;
+    say::field(rt, b": number ", s.number)?;
+    state(rt, u)?;
+    say::field(rt, b", offset ", s.offset)?;
+    say::field(rt, b" length ", s.len)?;
+    say::text(rt, b", follows slots")?;
+    say::set(rt, s.befores)?;
+    say::text(rt, b"\n")
 }
 
 // Whether the answer is the number, and hard.

@@ -12,21 +12,22 @@ mod pages;
 mod say;
 
 use rules::sizes::{IMAGE_BYTES, UNDO_BYTES};
+use std::io;
 
-fn main() {
+fn main(rt: HostRuntime) -> io::Result<()> {
     let mut image = [0u8; IMAGE_BYTES];
     // The undo area holds what it may. 7s show an old byte that was taken from anywhere but a kept room.
     let mut undo = [7u8; UNDO_BYTES];
-    pages::session(&mut image, &mut undo);
-    edges::ranges(&mut image, &mut undo);
-    edges::last_number(&mut image, &mut undo);
-    edges::slots(&mut image, &mut undo);
-    edges::no_slot(&mut image, &mut undo);
-    edges::rooms(&mut image, &mut undo);
-    joins::befores(&mut image, &mut undo);
-    joins::overlap(&mut image, &mut undo);
-    old::asked();
-    old::named(&mut image, &mut undo);
-    old::sleep(&mut image, &mut undo);
-    joint::examples(&mut image, &mut undo);
+    pages::session(&rt, &mut image, &mut undo)?;
+    edges::ranges(&rt, &mut image, &mut undo)?;
+    edges::last_number(&rt, &mut image, &mut undo)?;
+    edges::slots(&rt, &mut image, &mut undo)?;
+    edges::no_slot(&rt, &mut image, &mut undo)?;
+    edges::rooms(&rt, &mut image, &mut undo)?;
+    joins::befores(&rt, &mut image, &mut undo)?;
+    joins::overlap(&rt, &mut image, &mut undo)?;
+    old::asked(&rt)?;
+    old::named(&rt, &mut image, &mut undo)?;
+    old::sleep(&rt, &mut image, &mut undo)?;
+    joint::examples(&rt, &mut image, &mut undo)
 }
