@@ -3,10 +3,9 @@
 #![tactic(auto)]
 
 ghost use Rattle.std.specs.Prelude.{◌≡◌, cond, ◌&&◌, eqb};
-ghost use Rattle.masks.specs.Sets.{has as Sets·has};
+ghost use Rattle.masks.specs.Sets.{has};
 ghost use Rattle.rules.specs.Slots.{is_used, is_in_flight};
-ghost use Rattle.tally.specs.Counts.{one_more, carried, cleared, cut_landing};
-ghost use Rattle.tally.specs.Counts.{plus as Counts·plus};
+ghost use Rattle.tally.specs.Counts.{plus, one_more, carried, cleared, cut_landing};
 
 use rules::sizes::SLOTS;
 use rules::{Slot, State};
@@ -14,7 +13,7 @@ use slots::words::is_used;
 
 // A sum that stays at its most.
 pub fn plus(a: u64, b: u64) -> u64
-    ensures { result ≡ Counts·plus a b }
+    ensures { result ≡ plus a b }
 {
     if u64::MAX - a < b {
         return u64::MAX;
@@ -24,7 +23,7 @@ pub fn plus(a: u64, b: u64) -> u64
 
 // The changes of a slot, n before, with one more where it holds the patch with the number.
 fn one_more_in(s: Slot, number: u32, n: u64) -> u64
-    ensures { result ≡ cond (is_used s.state && eqb s.number number) (Counts·plus n 1) n }
+    ensures { result ≡ cond (is_used s.state && eqb s.number number) (plus n 1) n }
 {
     let u = s.state;
     if !is_used(u) {
@@ -49,7 +48,7 @@ pub fn one_more(slots: [Slot; SLOTS], number: u32, changes: [u64; SLOTS]) -> [u6
 
 // The n changes of slot i where it is in the set.
 fn carried_in(set: u64, i: usize, n: u64) -> u64
-    ensures { result ≡ cond (Sets·has set i) n 0 }
+    ensures { result ≡ cond (has set i) n 0 }
 {
     if masks::has(set, i) { n } else { 0 }
 }
@@ -66,7 +65,7 @@ pub fn carried(changes: [u64; SLOTS], set: u64) -> u64
 
 // The n changes of slot i where it is not in the set.
 fn cleared_in(set: u64, i: usize, n: u64) -> u64
-    ensures { result ≡ cond (Sets·has set i) 0 n }
+    ensures { result ≡ cond (has set i) 0 n }
 {
     if masks::has(set, i) { 0 } else { n }
 }
@@ -83,7 +82,7 @@ pub fn cleared(changes: [u64; SLOTS], set: u64) -> [u64; SLOTS]
 
 // Whether a slot is in flight on a block whose bit is set.
 fn lands(s: Slot, bits: u64) -> bool
-    ensures { result ≡ (is_in_flight s.state && Sets·has bits s.block) }
+    ensures { result ≡ (is_in_flight s.state && has bits s.block) }
 {
     let u = s.state;
     match u {

@@ -26,18 +26,18 @@ pub put_slot-requires : goal.put_slot-requires
 put_slot-requires c =
     let sized_here = c.if-bytes-ne-TABLE_BYTES.false in
     let same_here : length c.loop-i.bytes ≡ length c.args.bytes.now =
-            ap length c.loop-i.invariant.1.is ∙ length_splice _ _ _ ∙ ap length c.put-2.ensures ∙ length_splice _ _ _ ∙ ap length c.put.ensures
-        ∙ length_splice _ _ _ in
+    ap length c.loop-i.invariant.1.is ∙ length_splice _ _ _ ∙ ap length c.put-2.ensures ∙ length_splice _ _ _ ∙ ap length c.put.ensures
+    ∙ length_splice _ _ _ in
     omega (arith, same_here, sized_here)
 
 pub loop-i-preserved : goal.loop-i-preserved
 loop-i-preserved c =
     let size : length c.args.t.slots ≡ 64 =
-        let table = c.well_formed.1.0 in
-        let fields = table.1.1.1 in
-        let slots = fields.1.1 in
-        let array = slots.0.1 in
-        array.0.1 in
+    let table = c.well_formed.1.0 in
+    let fields = table.1.1.1 in
+    let slots = fields.1.1 in
+    let array = slots.0.1 in
+    array.0.1 in
     let slots = c.args.t.slots in
     let i = c.loop-i.i in
     let few : i ≤ length slots = omega (arith, size, c.loop-i.invariant.0) in
@@ -50,19 +50,19 @@ loop-i-preserved c =
 
 pub shape_of-bytes : goal.shape_of-bytes
 shape_of-bytes c =
-            ap length c.loop-i.invariant.1.is ∙ length_splice _ _ _ ∙ ap length c.put-2.ensures ∙ length_splice _ _ _ ∙ ap length c.put.ensures
-        ∙ length_splice _ _ _
+    ap length c.loop-i.invariant.1.is ∙ length_splice _ _ _ ∙ ap length c.put-2.ensures ∙ length_splice _ _ _ ∙ ap length c.put.ensures
+    ∙ length_splice _ _ _
 
 pub returns : goal.returns
 unfolding in_bytes bytes_of
 returns c =
     let sized_here = c.if-bytes-ne-TABLE_BYTES.false in
     let size : length c.args.t.slots ≡ 64 =
-        let table = c.well_formed.1.0 in
-        let fields = table.1.1.1 in
-        let slots = fields.1.1 in
-        let array = slots.0.1 in
-        array.0.1 in
+    let table = c.well_formed.1.0 in
+    let fields = table.1.1.1 in
+    let slots = fields.1.1 in
+    let array = slots.0.1 in
+    array.0.1 in
     let a = c.args in
     let all : slots_bytes (take c.loop-i.i a.t.slots) ≡ slots_bytes a.t.slots = ap slots_bytes
     (take_all c.loop-i.i a.t.slots (omega (arith, c.loop-i-test.false, size))) in

@@ -28,7 +28,7 @@ returns-then-not-is_sound c =
 pub returns-then-not-is_issued : goal.returns-then-not-is_issued
 returns-then-not-is_issued c =
     let sound_here : Sound (seen c.args.self) =
-        yes_of c.is_sound.result c.is_sound.ensures c.if-not-is_sound.false in
+    yes_of c.is_sound.result c.is_sound.ensures c.if-not-is_sound.false in
     let a = c.args in
     ask_unissued (seen a.self) a.number sound_here (no_of c.is_issued.result c.is_issued.ensures c.if-not-is_issued.true)
 

@@ -25,16 +25,16 @@ returns-then-not-is_sound c =
 pub returns-then-block-gt-LAST_BLOCK : goal.returns-then-block-gt-LAST_BLOCK
 returns-then-block-gt-LAST_BLOCK c =
     let sound_here : Sound (seen c.args.self) =
-        yes_of c.is_sound.result c.is_sound.ensures c.if-not-is_sound.false in
+    yes_of c.is_sound.result c.is_sound.ensures c.if-not-is_sound.false in
     let a = c.args in
     complete_no_block (seen a.self) a.block sound_here c.if-block-gt-LAST_BLOCK.true
 
 pub returns-then-landed-eq0 : goal.returns-then-landed-eq0
 returns-then-landed-eq0 c =
     let sound_here : Sound (seen c.args.self) =
-        yes_of c.is_sound.result c.is_sound.ensures c.if-not-is_sound.false in
+    yes_of c.is_sound.result c.is_sound.ensures c.if-not-is_sound.false in
     let block_here : c.args.block < blocks =
-        omega (arith, c.if-block-gt-LAST_BLOCK.false) in
+    omega (arith, c.if-block-gt-LAST_BLOCK.false) in
     let a = c.args in
     complete_none (seen a.self) a.block sound_here block_here
     (none_flies c.patches_on-on.ensures c.if-landed-eq0.true)
@@ -43,9 +43,9 @@ pub returns : goal.returns
 unfolding completed completed_slots
 returns c =
     let sound_here : Sound (seen c.args.self) =
-        yes_of c.is_sound.result c.is_sound.ensures c.if-not-is_sound.false in
+    yes_of c.is_sound.result c.is_sound.ensures c.if-not-is_sound.false in
     let block_here : c.args.block < blocks =
-        omega (arith, c.if-block-gt-LAST_BLOCK.false) in
+    omega (arith, c.if-block-gt-LAST_BLOCK.false) in
     let a = c.args in
     let on = c.patches_on-on.ensures in
     subst (λ (t : rules.Table). Completes (seen a.self) a.block (record { answer = answer.Granted; table = t }))

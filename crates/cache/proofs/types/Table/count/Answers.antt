@@ -21,14 +21,14 @@ returns-then-not-is_sound c =
 pub returns-then-block-gt-LAST_BLOCK : goal.returns-then-block-gt-LAST_BLOCK
 returns-then-block-gt-LAST_BLOCK c =
     let sound_here : Sound (seen c.args.self) =
-        yes_of c.is_sound.result c.is_sound.ensures c.if-not-is_sound.false in
+    yes_of c.is_sound.result c.is_sound.ensures c.if-not-is_sound.false in
     let a = c.args in
     count_no_block (seen a.self) a.block sound_here c.if-block-gt-LAST_BLOCK.true
 
 pub returns : goal.returns
 returns c =
     let sound_here : Sound (seen c.args.self) =
-        yes_of c.is_sound.result c.is_sound.ensures c.if-not-is_sound.false in
+    yes_of c.is_sound.result c.is_sound.ensures c.if-not-is_sound.false in
     let a = c.args in
     subst (λ (n : ℕ). Counts (seen a.self) a.block (count.Granted n))
     (sym (ap ones c.patches_on-on.ensures.waiting ∙ ones_many (waits_on a.self.slots a.block) 64))

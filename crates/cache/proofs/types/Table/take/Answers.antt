@@ -31,7 +31,7 @@ pub returns-then-j-gt-LAST_SLOT : goal.returns-then-j-gt-LAST_SLOT
 returns-then-j-gt-LAST_SLOT c =
     let known = c.requires in
     let lowest_of : LowestOr 64 (FreeSlot c.args.self.slots) c.lowest_outside-j.result =
-         free_slots c.args.self.slots known.is-used c.lowest_outside-j.ensures in
+    free_slots c.args.self.slots known.is-used c.lowest_outside-j.ensures in
     let numbered = c.if-self-eq-LAST_NEXT.false in
     create_no_slot _ _ _ _ known.ready known.own numbered (lowest_of.nowhere c.if-j-gt-LAST_SLOT.true)
 
@@ -39,10 +39,10 @@ pub returns-in_default : goal.returns-in_default
 returns-in_default c =
     let known = c.requires in
     let lowest_of : LowestOr 64 (FreeSlot c.args.self.slots) c.lowest_outside-j.result =
-         free_slots c.args.self.slots known.is-used c.lowest_outside-j.ensures in
+    free_slots c.args.self.slots known.is-used c.lowest_outside-j.ensures in
     let numbered = c.if-self-eq-LAST_NEXT.false in
     let lowest_here : Lowest 64 (FreeSlot c.args.self.slots) c.lowest_outside-j.result =
-        lowest_of.there (omega (arith, c.if-j-gt-LAST_SLOT.false)) in
+    lowest_of.there (omega (arith, c.if-j-gt-LAST_SLOT.false)) in
     let a = c.args in
     create_no_room _ _ _ _ known.ready known.own numbered c.lowest_outside-j.result lowest_here
     (subst (HeldAs a.self.setting a.self.slots a.block) c.in_default.is known.held)
@@ -63,13 +63,13 @@ unfolding accepted
 returns c =
     let known = c.requires in
     let lowest_of : LowestOr 64 (FreeSlot c.args.self.slots) c.lowest_outside-j.result =
-         free_slots c.args.self.slots known.is-used c.lowest_outside-j.ensures in
+    free_slots c.args.self.slots known.is-used c.lowest_outside-j.ensures in
     let numbered = c.if-self-eq-LAST_NEXT.false in
     let lowest_here : Lowest 64 (FreeSlot c.args.self.slots) c.lowest_outside-j.result =
-        lowest_of.there (omega (arith, c.if-j-gt-LAST_SLOT.false)) in
+    lowest_of.there (omega (arith, c.if-j-gt-LAST_SLOT.false)) in
     let held_here : let a = c.args in HoldOf a.self.setting a.self.slots a.block c.in-Of.hold =
-            let a = c.args in
-        subst (HeldAs a.self.setting a.self.slots a.block) c.in-Of.is known.held in
+    let a = c.args in
+    subst (HeldAs a.self.setting a.self.slots a.block) c.in-Of.is known.held in
     let a = c.args in
     create-granted (seen a.self) a.image.now a.undo.now (change_of a.block a.offset a.bytes.now a.named.now) known.ready known.own numbered c.lowest_outside-j.result lowest_here c.in-Of.hold held_here
     (seen c.with_patch.result) c.put.new.image c.keep.new.undo

@@ -25,16 +25,16 @@ returns-then-refusal-ne0 c =
 pub returns-then-set-eq0 : goal.returns-then-set-eq0
 returns-then-set-eq0 c =
     let on_here : let a = c.args in PatchesOn a.self.slots a.block c.patches_on-on.result =
-        c.patches_on-on.ensures in
+    c.patches_on-on.ensures in
     let ready_here : let a = c.args in WriteReady (seen a.self) a.image.now a.undo.now a.handed.now a.block =
-            let a = c.args in
-        let sound = c.is_sound-sound in
-        write_ready (seen a.self) sound.result sound.ensures a.block on_here a.image.now a.undo.now a.handed.now
-        c.if-refusal-ne0.false c.write_refusal-refusal.ensures in
+    let a = c.args in
+    let sound = c.is_sound-sound in
+    write_ready (seen a.self) sound.result sound.ensures a.block on_here a.image.now a.undo.now a.handed.now
+    c.if-refusal-ne0.false c.write_refusal-refusal.ensures in
     let largest_here : let a = c.args in Largest a.self.slots a.block c.largest-set.result =
-        let ss = c.args.self.slots in
-        let on = on_here in
-        subst (Largest ss _) (sym (c.largest-set.ensures ∙ ap₂ (searched ss) on.hard on.waiting)) (searched_largest ss _) in
+    let ss = c.args.self.slots in
+    let on = on_here in
+    subst (Largest ss _) (sym (c.largest-set.ensures ∙ ap₂ (searched ss) on.hard on.waiting)) (searched_largest ss _) in
     let a = c.args in
     write_only_empty (seen a.self) a.image.now a.undo.now a.handed.now a.block ready_here
     (subst (Largest a.self.slots a.block) c.if-set-eq0.true largest_here)
@@ -43,16 +43,16 @@ pub returns : goal.returns
 unfolding sent
 returns c =
     let on_here : let a = c.args in PatchesOn a.self.slots a.block c.patches_on-on.result =
-        c.patches_on-on.ensures in
+    c.patches_on-on.ensures in
     let ready_here : let a = c.args in WriteReady (seen a.self) a.image.now a.undo.now a.handed.now a.block =
-            let a = c.args in
-        let sound = c.is_sound-sound in
-        write_ready (seen a.self) sound.result sound.ensures a.block on_here a.image.now a.undo.now a.handed.now
-        c.if-refusal-ne0.false c.write_refusal-refusal.ensures in
+    let a = c.args in
+    let sound = c.is_sound-sound in
+    write_ready (seen a.self) sound.result sound.ensures a.block on_here a.image.now a.undo.now a.handed.now
+    c.if-refusal-ne0.false c.write_refusal-refusal.ensures in
     let largest_here : let a = c.args in Largest a.self.slots a.block c.largest-set.result =
-        let ss = c.args.self.slots in
-        let on = on_here in
-        subst (Largest ss _) (sym (c.largest-set.ensures ∙ ap₂ (searched ss) on.hard on.waiting)) (searched_largest ss _) in
+    let ss = c.args.self.slots in
+    let on = on_here in
+    subst (Largest ss _) (sym (c.largest-set.ensures ∙ ap₂ (searched ss) on.hard on.waiting)) (searched_largest ss _) in
     let a = c.args in
     let r = ready_here in
     let set = c.largest-set.result in
