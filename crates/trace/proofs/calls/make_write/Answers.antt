@@ -1,0 +1,8 @@
+-- `calls::make_write` meets its contract. Assumes nothing.
+use Rattle.trace.proofs.CallsMade.{write_made}
+use Rattle.trace.proofs.calls.make_write.Goals as goal
+
+pub returns : goal.returns
+returns c =
+    let a = c.args in
+    write_made a.kept a.image.now a.undo.now c.write-o.result c.write-o.ensures c.write_number.ensures c.write_more.ensures c.made.ensures

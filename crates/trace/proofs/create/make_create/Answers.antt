@@ -1,0 +1,11 @@
+-- `create::make_create` meets its contract. Assumes nothing.
+use Rattle.records.specs.Reader.{call_in}
+use Rattle.trace.proofs.CallsMade.{create_made}
+use Rattle.trace.proofs.create.make_create.Goals as goal
+
+pub returns : goal.returns
+unfolding call_in
+returns c =
+    let a = c.args in
+    create_made a.kept a.image.now a.undo.now c.created-o.result c.created-o.ensures c.create_number.ensures c.create_more.ensures
+    c.changes_after.ensures c.made.ensures
