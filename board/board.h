@@ -1,5 +1,5 @@
 /* The write-before cache for C: seven functions over plain numbers and lent bytes, and six that record their calls, proved in
- * crates/board.
+ * crates/board, and in crates/board_c under these names.
  *
  * The radio makes changes, each to one block of 256 bytes and each naming earlier changes that must reach the store first. The
  * cache says what may be sent, and with which bytes. docs/RULES.md has the rules and the words.
@@ -39,7 +39,7 @@
  *   valid for the length, and aligned where they are to 32-bit or 64-bit numbers; tables and buffers of bytes may stand anywhere.
  *   No two of a call's pointers reach the same byte, unless both are to const. Two traps: `bytes` that lie in the image itself
  *   (copy them out first), and `named` and `number` that are the same word (let the answer go into another).
- *   No call keeps a pointer or allocates, and none calls anything but C's memcpy.
+ *   No call keeps a pointer or allocates, and none calls anything but C's memcpy and memset.
  *
  * RECORDING. A trace is the calls of one power-up, for a bench to run again: their records, end to end. For each call of
  * board_open, board_create, board_write and board_complete, in the order in which you make them, call the board_record_ function

@@ -241,7 +241,7 @@ mod tests {
 
     #[test]
     fn fixed_cases_and_tables_on_the_library() {
-        cases_pass(&*through::library(through::USUAL).expect("the library").1);
+        cases_pass(&*through::library(Through::Link).expect("the library").1);
     }
 
     #[test]

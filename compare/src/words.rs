@@ -1,7 +1,7 @@
 //! The words of the command line: what is asked for, and which way to what is under test.
 
 use crate::bench::Measured;
-use crate::library::through::{Through, USUAL};
+use crate::library::through::Through;
 
 pub const USAGE: &str = "\
 usage: compare COMMAND [WAY]
@@ -16,11 +16,11 @@ usage: compare COMMAND [WAY]
                     stopped after 1,000,000, or N
   once [ORDERS [joint | parted]]
                     the benchmark's calls once, for a tool that counts instructions; the joint ones alone, or each as its two
-  bench             time a call of the library and of the plain program, both behind a pipe (x86-64)
+  bench             time a call of the library and of the plain program, both behind a pipe
   folder            every case of the folder traces/ through replay
   traces [N [SEED]] random traces, damaged ones among them, through replay; a quick run's, or N
   replay [N]        time and memory of replay on a trace of 1,000,000 records, or N
-ways, other than linked in (elsewhere than on x86-64: other than --pipe)
+ways, other than linked in
   --pipe            the library behind a pipe
   --plain           the plain program, behind a pipe, in the library's place
   --model           the model in the library's place, and in replay's";
@@ -30,8 +30,8 @@ pub const SETTING_CALLS: u64 = 100_000;
 const LONG_SEED: u64 = 2;
 const ORDERS: u64 = 100;
 const GAIN_CHANGES: u64 = 1_000_000;
-/// A process for each: under an emulator far fewer go into the same time.
-const QUICK_TRACES: u64 = if cfg!(target_arch = "x86_64") { 20_000 } else { 300 };
+/// A process for each.
+const QUICK_TRACES: u64 = 20_000;
 const TRACES_SEED: u64 = 1;
 const LONG_TRACE: u64 = 1_000_000;
 
@@ -65,7 +65,7 @@ pub fn asked(words: &[String]) -> Result<(Command, Through), String> {
     let mut plain = Vec::new();
     for word in words {
         match word.as_str() {
-            "--help" | "-h" => return Ok((Command::Help, USUAL)),
+            "--help" | "-h" => return Ok((Command::Help, Through::Link)),
             "--pipe" => way = Some(Through::Pipe),
             "--plain" => way = Some(Through::Plain),
             "--model" => way = Some(Through::Model),
@@ -103,7 +103,7 @@ pub fn asked(words: &[String]) -> Result<(Command, Through), String> {
     if command.is_of_replay() && matches!(way, Some(Through::Pipe | Through::Plain)) {
         return Err(String::from("replay is a program: there is one way to it"));
     }
-    Ok((command, way.unwrap_or(USUAL)))
+    Ok((command, way.unwrap_or(Through::Link)))
 }
 
 fn number(word: &str) -> Result<u64, String> {

@@ -1,12 +1,10 @@
 //! What is under test: the seven calls over plain buffers, and the ways to them.
 
-#[cfg(linked)]
 #[allow(unsafe_code, dead_code)]
 #[path = "../../../board/board.rs"]
 #[rustfmt::skip] // the shipped file has its own layout
 mod board;
 pub mod calls;
-#[cfg(linked)]
 #[allow(unsafe_code)]
 pub mod linked;
 pub mod mock;

@@ -1,5 +1,4 @@
 //! The library behind a pipe: serve.c makes the calls through board.h and keeps the buffers; its head says what goes over the pipe.
-//! Works on any processor that can run the program, under an emulator or not.
 
 use crate::library::calls::Library;
 use crate::model::record::{Record, Recorded};

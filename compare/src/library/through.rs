@@ -2,6 +2,7 @@
 //! stands in for the library.
 
 use crate::library::calls::Library;
+use crate::library::linked::Linked;
 use crate::library::mock::Mock;
 use crate::library::pipe::Pipe;
 use crate::model::rules::Right;
@@ -16,27 +17,14 @@ pub enum Through {
     Model,
 }
 
-/// Linked in where the archive can be: it is x86-64 code.
-pub const USUAL: Through = if cfg!(linked) { Through::Link } else { Through::Pipe };
-
 /// What is under test, and its name; or why it cannot be had.
 pub fn library(way: Through) -> Result<(&'static str, Box<dyn Library>), String> {
     match way {
-        Through::Link => linked(),
+        Through::Link => Ok(("libboard.a linked in", Box::new(Linked::default()))),
         Through::Pipe => Ok(("libboard.a behind a pipe", Box::new(board()?))),
         Through::Plain => Ok(("the plain program behind a pipe", Box::new(plain()?))),
         Through::Model => Ok(("none, the model stands in for it", Box::new(Mock(Right)))),
     }
-}
-
-#[cfg(linked)]
-fn linked() -> Result<(&'static str, Box<dyn Library>), String> {
-    Ok(("libboard.a linked in", Box::new(crate::library::linked::Linked::default())))
-}
-
-#[cfg(not(linked))]
-fn linked() -> Result<(&'static str, Box<dyn Library>), String> {
-    Err(String::from("libboard.a is not linked into this program: go through the pipe"))
 }
 
 /// The library behind a pipe.
@@ -49,13 +37,13 @@ pub fn plain() -> Result<Pipe, String> {
     started("plain-serve")
 }
 
-/// Starts a program that compare/build wrote, under the one that BOARD_RUN names, else under the emulator where it is not this
-/// processor's.
+/// Starts a program that compare/build wrote, under the one that BOARD_RUN names, where it names one.
 fn started(name: &str) -> Result<Pipe, String> {
     let program = Path::new(env!("CARGO_MANIFEST_DIR")).join("../target").join(name);
-    let emulator = if cfg!(target_arch = "x86_64") { "" } else { "qemu-x86_64" };
-    let run = std::env::var("BOARD_RUN").unwrap_or_else(|_| String::from(emulator));
-    let mut command = if run.is_empty() { Command::new(&program) } else { Command::new(run) };
+    let mut command = match std::env::var_os("BOARD_RUN") {
+        Some(run) => Command::new(run),
+        None => Command::new(&program),
+    };
     if command.get_program() != program {
         command.arg(&program);
     }
