@@ -3,15 +3,16 @@
 // input is. What a line says is proved in `trace`; here bytes are only moved.
 #![tactic(auto)]
 
-ghost use Rattle.std.specs.Prelude.{◌≤◌, length, IfOk};
+ghost use Rattle.std.specs.Prelude.{◌≡◌, ◌≤◌, ◌<◌, length, take, drop, IfOk};
 ghost use Rattle.std.specs.Io.{ReadsAtMost};
+ghost use Rattle.std.specs.Io.KnownBytes.{Consumes, IsAtEnd};
 
 use lines::LINE_BYTES;
 use records::reader::next_in;
 use records::sizes::RECORD_BYTES;
 use records::types::Next;
 use rules::sizes::{IMAGE_BYTES, UNDO_BYTES};
-use std::io::{self, ErrorKind, Read};
+use std::io::{self, Read};
 use trace::run::{start, step};
 use trace::types::{Kept, Phase};
 
@@ -25,33 +26,31 @@ fn wanted(bytes: &[u8]) -> usize {
     }
 }
 
-// Reads until the bytes are full or the input ends, and answers how many have come. A signal that breaks
-// into a read is no end, so such a read is tried again. The loop ends as main's does.
-fn read_full(input: &mut impl Read, bytes: &mut [u8]) -> io::Result<usize>
-    ensures { ReadsAtMost result bytes.new }
+// Reads until the bytes are full or the input ends, and answers how many have come.
+fn read_full<R: Read>(input: &mut R, bytes: &mut [u8]) -> io::Result<usize>
+    ensures bound { ReadsAtMost result bytes.new }
+    ensures read { IfOk result (λ n. Consumes (R.remaining input.old) (R.remaining input.new)
+        (take n bytes.new)) }
+    ensures end { IfOk result (λ n. n < length bytes.new → IsAtEnd (R.remaining input.new)) }
 {
     let mut have = 0;
-    for _ in 0..u64::MAX {
-        if have == bytes.len() {
+    while have < bytes.len() {
+        let n = input.read(&mut bytes[have..])?;
+        if n == 0 {
             break;
         }
-        match input.read(&mut bytes[have..]) {
-            Ok(0) => break,
-            Ok(n) => have += n,
-            Err(e) => {
-                if e.kind() != ErrorKind::Interrupted {
-                    return Err(e);
-                }
-            }
-        }
+        have += n;
     }
     Ok(have)
 }
 
 // Reads what is still to come behind the first `have` bytes, and answers how many are there then: fewer
 // than wanted where the input has ended.
-fn read_on(input: &mut impl Read, bytes: &mut [u8], have: usize) -> io::Result<usize>
-    ensures { IfOk result (λ n. n ≤ length bytes.new) }
+fn read_on<R: Read>(input: &mut R, bytes: &mut [u8], have: usize) -> io::Result<usize>
+    ensures bound { IfOk result (λ n. n ≤ length bytes.new) }
+    ensures front { take have bytes.new ≡ take have bytes.old }
+    ensures read { IfOk result (λ n. Consumes (R.remaining input.old) (R.remaining input.new)
+        (drop have (take n bytes.new))) }
 {
     if bytes.len() < have {
         return Ok(0);
