@@ -1,17 +1,9 @@
 -- `calls::board_ask` meets its contract. Assumes nothing.
-use Prim.Native.Nat.{ℕ}
-use mathlib.Core.Path.{◌≡◌, ◌∙◌}
-use Rattle.ground.proofs.Decided.{yes_not, no_not, no_of, yes_of}
-use Rattle.rules.specs.declared.AskAnswer.{AskAnswer}
+use mathlib.Core.Path.{◌∙◌}
+use Rattle.ground.proofs.Decided.{no_of, yes_of}
 use Rattle.rules.specs.declared.AskAnswer.TheVariants as ask
-use Rattle.rules.specs.Ask.{ask_word}
-use Rattle.rules.specs.Calls.{ask_number}
-use Rattle.cache.specs.Seen.{seen}
-use Rattle.layout.specs.Layout.{IsTable, table_in}
-use Rattle.board.specs.Calls.{AskCall}
 use Rattle.layout.proofs.Length.{read_whole}
 use Rattle.board.proofs.Answers.{ask_none, ask_here}
-use borrow.Author.Rules.{rules}
 use Rattle.board.proofs.calls.board_ask.Goals as goal
 
 pub returns-then-not-is_table : goal.returns-then-not-is_table

@@ -1,7 +1,6 @@
 -- `calls::board_complete` meets its contract. Assumes nothing.
-use Rattle.ground.proofs.Decided.{yes_not, no_not, no_of, yes_of}
+use Rattle.ground.proofs.Decided.{no_of, yes_of}
 use Rattle.board.proofs.Answers.{complete_none}
-use borrow.Author.Rules.{rules}
 use Rattle.board.proofs.calls.board_complete.Goals as goal
 
 pub returns-then-not-is_table : goal.returns-then-not-is_table

@@ -1,7 +1,5 @@
 -- `calls::board_complete_write` meets its contract: both of its calls meet theirs. Assumes nothing.
-use native.Mathlib.Omega.{arith}
-use Rattle.ground.proofs.Decided.{yes_not, no_not, no_of, yes_of}
-use Rattle.layout.specs.Layout.{IsTable}
+use Rattle.ground.proofs.Decided.{no_of, yes_of}
 use Rattle.board.proofs.Answers.{joint-none}
 use Rattle.board.proofs.Kept.{Bytes}
 use Rattle.board.proofs.Joint.{joint_refused_here, table_between, joint_granted_here}

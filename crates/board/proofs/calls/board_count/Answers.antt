@@ -1,16 +1,9 @@
 -- `calls::board_count` meets its contract. Assumes nothing.
-use Prim.Native.Nat.{ℕ}
-use mathlib.Core.Path.{◌≡◌, ◌∙◌}
-use Rattle.ground.proofs.Decided.{yes_not, no_not, no_of, yes_of}
-use Rattle.rules.specs.declared.CountAnswer.{CountAnswer}
+use mathlib.Core.Path.{◌∙◌}
+use Rattle.ground.proofs.Decided.{no_of, yes_of}
 use Rattle.rules.specs.declared.CountAnswer.TheVariants as count
-use Rattle.rules.specs.Calls.{count_number, counted}
-use Rattle.cache.specs.Seen.{seen}
-use Rattle.layout.specs.Layout.{IsTable, table_in}
-use Rattle.board.specs.Calls.{CountCall}
 use Rattle.layout.proofs.Length.{read_whole}
 use Rattle.board.proofs.Answers.{count_none, count_here}
-use borrow.Author.Rules.{rules}
 use Rattle.board.proofs.calls.board_count.Goals as goal
 
 pub returns-then-not-is_table : goal.returns-then-not-is_table

@@ -1,16 +1,11 @@
 -- `calls::board_create` meets its contract. Assumes nothing.
-use Prim.Native.Nat.{ℕ}
-use mathlib.Core.Path.{◌≡◌, ◌∙◌}
+use mathlib.Core.Path.{◌∙◌}
 use mathlib.Core.Logic.{inl, inr, ⊎_elim}
-use Rattle.ground.proofs.Decided.{yes_not, no_not, no_of, yes_of}
-use Rattle.rules.specs.declared.Hold.{Hold}
-use Rattle.rules.specs.Calls.{Creation}
+use Rattle.ground.proofs.Decided.{no_of, yes_of}
 use Rattle.rules.proofs.Cases.{holds, passes}
-use Rattle.cache.specs.Seen.{seen, creation}
-use Rattle.layout.specs.Layout.{IsTable, table_in}
+use Rattle.cache.specs.Seen.{creation}
 use Rattle.layout.proofs.Length.{read_whole, stored_whole}
 use Rattle.board.proofs.Answers.{create-none, hold_fits, create_granted_here, create_refused_here}
-use borrow.Author.Rules.{rules}
 use Rattle.board.proofs.calls.board_create.Goals as goal
 
 pub returns-then-image-ne-IMAGE_BYTES : goal.returns-then-image-ne-IMAGE_BYTES

@@ -1,11 +1,9 @@
 -- `calls::board_open` meets its contract. Assumes nothing.
-use Prim.Native.Nat.{ℕ}
 use mathlib.Core.Path.{◌∙◌}
 use Rattle.rules.specs.declared.Answer.TheVariants as plain
 use Rattle.cache.specs.Seen.{opening}
 use Rattle.layout.proofs.Length.{stored_whole}
 use Rattle.board.proofs.Answers.{open_other, open_here}
-use borrow.Author.Rules.{rules}
 use Rattle.board.proofs.calls.board_open.Goals as goal
 
 pub returns-then-table-ne-TABLE_BYTES : goal.returns-then-table-ne-TABLE_BYTES

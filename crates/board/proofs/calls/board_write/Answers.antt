@@ -1,10 +1,8 @@
 -- `calls::board_write` meets its contract. Assumes nothing.
 use mathlib.Core.Logic.{inl, inr, ⊎_elim}
-use Rattle.ground.proofs.Decided.{yes_not, no_not, no_of, yes_of}
+use Rattle.ground.proofs.Decided.{no_of, yes_of}
 use Rattle.rules.proofs.Cases.{holds, passes}
-use Rattle.layout.specs.Layout.{IsTable}
 use Rattle.board.proofs.Answers.{write-none}
-use borrow.Author.Rules.{rules}
 use Rattle.board.proofs.calls.board_write.Goals as goal
 
 pub returns-then-image-ne-IMAGE_BYTES : goal.returns-then-image-ne-IMAGE_BYTES

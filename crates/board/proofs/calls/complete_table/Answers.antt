@@ -1,11 +1,8 @@
 -- `calls::complete_table` meets its contract. Assumes nothing.
-use Prim.Native.Nat.{ℕ}
-use mathlib.Core.Path.{◌≡◌, ◌∙◌}
-use Rattle.cache.specs.Seen.{seen, completion}
-use Rattle.layout.specs.Layout.{IsTable, table_in}
+use mathlib.Core.Path.{◌∙◌}
+use Rattle.cache.specs.Seen.{completion}
 use Rattle.layout.proofs.Length.{read_whole, stored_whole}
 use Rattle.board.proofs.Answers.{complete_granted_here, complete_refused_here}
-use borrow.Author.Rules.{rules}
 use Rattle.board.proofs.calls.complete_table.Goals as goal
 
 pub returns-then-table-ne-TABLE_BYTES : goal.returns-then-table-ne-TABLE_BYTES

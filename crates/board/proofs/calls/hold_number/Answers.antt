@@ -2,7 +2,6 @@
 use Prim.Native.Nat.{◌<◌}
 use mathlib.Core.Path.{sym, ap, subst}
 use mathlib.Core.Option.{some}
-use borrow.Author.Rules.{rules}
 use Rattle.rules.specs.declared.Hold.{Hold}
 use Rattle.board.specs.Calls.{hold_number}
 use Rattle.board.proofs.calls.hold_number.Goals as goal

@@ -1,12 +1,8 @@
 -- `calls::write_table` meets its contract. Assumes nothing.
-use Prim.Native.Nat.{ℕ}
-use mathlib.Core.Path.{◌≡◌, ◌∙◌}
-use Rattle.rules.specs.Calls.{Writing}
-use Rattle.cache.specs.Seen.{seen, writing}
-use Rattle.layout.specs.Layout.{IsTable, table_in}
+use mathlib.Core.Path.{◌∙◌}
+use Rattle.cache.specs.Seen.{writing}
 use Rattle.layout.proofs.Length.{read_whole, stored_whole}
 use Rattle.board.proofs.Answers.{write_granted_here, write_refused_here}
-use borrow.Author.Rules.{rules}
 use Rattle.board.proofs.calls.write_table.Goals as goal
 
 pub returns-then-table-ne-TABLE_BYTES : goal.returns-then-table-ne-TABLE_BYTES

@@ -2,7 +2,6 @@
 use Rattle.records.specs.Writer.{recording}
 use Rattle.records.proofs.OneAnswer.{joint_record_short}
 use Rattle.board.proofs.Recorded.{joint_recorded_call}
-use borrow.Author.Rules.{rules}
 use Rattle.board.proofs.recording.board_record_complete_write.Goals as goal
 
 pub length_of-requires : goal.length_of-requires

@@ -3,7 +3,6 @@ use Rattle.records.specs.Record.{creates}
 use Rattle.records.specs.Writer.{recording}
 use Rattle.records.proofs.OneAnswer.{record_short}
 use Rattle.board.proofs.Recorded.{recorded_call}
-use borrow.Author.Rules.{rules}
 use Rattle.board.proofs.recording.board_record_create.Goals as goal
 
 pub length_of-requires : goal.length_of-requires

@@ -5,7 +5,6 @@ use native.Mathlib.Omega.{arith}
 use Rattle.records.specs.declared.types.Recorded.{Recorded}
 use Rattle.records.specs.Record.{record_bytes}
 use Rattle.records.specs.Writer.{record_length}
-use borrow.Author.Rules.{rules}
 use Rattle.board.proofs.recording.length_of.Goals as goal
 
 pub overflow_cast-result : goal.overflow_cast-result

@@ -2,7 +2,6 @@
 use Prim.Native.Nat.{ℕ}
 use mathlib.Core.Path.{sym, ap, ◌∙◌}
 use native.Mathlib.Nat.{mul_comm}
-use borrow.Author.Rules.{rules}
 use Rattle.spans.specs.Spans.{splice, part}
 use Rattle.cache.specs.Taking.{kept_at}
 use Rattle.cache.proofs.create.keep.Goals as goal

@@ -1,6 +1,5 @@
 -- `create::put` meets its contract. Assumes nothing.
 use mathlib.Core.Path.{ap, ◌∙◌}
-use borrow.Author.Rules.{rules}
 use Rattle.spans.specs.Spans.{splice}
 use Rattle.spans.proofs.Laws.{part_whole}
 use Rattle.cache.proofs.create.put.Goals as goal

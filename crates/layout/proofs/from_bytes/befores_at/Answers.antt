@@ -1,7 +1,6 @@
 -- `from_bytes::befores_at` meets its contract. Assumes nothing.
 use native.Mathlib.Omega.{arith}
 use Rattle.layout.proofs.Numbers.{number_8}
-use borrow.Author.Rules.{rules}
 use Rattle.layout.proofs.from_bytes.befores_at.Goals as goal
 
 pub returns : goal.returns

@@ -1,9 +1,6 @@
 -- `from_bytes::is_table` meets its contract: the tags that were passed are at most 4. Assumes nothing.
 use Prim.Native.Nat.{ℕ, ◌≤◌, ◌<◌, ◌-◌}
-use native.Mathlib.Omega.{arith}
-use borrow.Author.Count.{below_more}
 use Rattle.layout.specs.Layout.{number_at, slot_start}
-use borrow.Author.Rules.{rules}
 use Rattle.layout.proofs.from_bytes.is_table.Given as goal
 
 abbrev pub invariant-loop-i : goal.invariant-loop-i

@@ -1,7 +1,6 @@
 -- `from_bytes::slot_in` meets its contract: field by field. Assumes nothing.
 use mathlib.Core.Path.{ap₂, ◌∙◌}
 use Rattle.layout.specs.Layout.{state_of, slot_in}
-use borrow.Author.Rules.{rules}
 use Rattle.layout.proofs.RoundTrip.{same_slot}
 use Rattle.layout.proofs.from_bytes.slot_in.Goals as goal
 

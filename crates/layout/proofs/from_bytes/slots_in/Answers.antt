@@ -1,10 +1,8 @@
 -- `from_bytes::slots_in` meets its contract: a walk that sets each slot to what its bytes mean. Assumes nothing.
-use Prim.Native.Nat.{◌≤◌, ◌-◌}
 use mathlib.Core.Path.{refl}
 use native.Mathlib.Omega.{arith}
-use Rattle.slots.proofs.Walked.{Walked, walk_starts, walk_goes_on, walk_ends}
-use Rattle.layout.specs.Layout.{slot_in, slot_start, table_in}
-use borrow.Author.Rules.{rules}
+use Rattle.slots.proofs.Walked.{walk_starts, walk_goes_on, walk_ends}
+use Rattle.layout.specs.Layout.{table_in}
 use Rattle.layout.proofs.from_bytes.slots_in.Goals as goal
 
 pub loop-i-init : goal.loop-i-init

@@ -3,7 +3,6 @@ use mathlib.Core.Path.{sym, ◌∙◌}
 use Rattle.cache.specs.Seen.{opening}
 use Rattle.layout.specs.Layout.{table_in}
 use Rattle.layout.proofs.Length.{read_whole, read_other, opens_one}
-use borrow.Author.Rules.{rules}
 use Rattle.layout.proofs.from_bytes.table_in.Goals as goal
 
 pub returns-then-bytes-ne-TABLE_BYTES : goal.returns-then-bytes-ne-TABLE_BYTES

@@ -3,7 +3,6 @@ use native.Mathlib.Omega.{arith}
 use lib.ListN.{length-set}
 use Rattle.layout.specs.Layout.{in_bytes}
 use Rattle.layout.proofs.Laid.{set_four}
-use borrow.Author.Rules.{rules}
 use Rattle.layout.proofs.to_bytes.put.Goals as goal
 
 pub bounds-bytes-at-2 : goal.bounds-bytes-at-2

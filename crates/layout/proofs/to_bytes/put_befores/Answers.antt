@@ -7,7 +7,6 @@ use Rattle.spans.proofs.Laws.{laid}
 use Rattle.layout.specs.Layout.{in_bytes}
 use Rattle.layout.proofs.Numbers.{bytes_8}
 use Rattle.layout.proofs.Laid.{length_four}
-use borrow.Author.Rules.{rules}
 use Rattle.layout.proofs.to_bytes.put_befores.Goals as goal
 
 pub returns : goal.returns

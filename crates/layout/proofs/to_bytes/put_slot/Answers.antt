@@ -5,7 +5,6 @@ use Rattle.spans.specs.Spans.{splice}
 use Rattle.spans.proofs.Laws.{laid}
 use Rattle.rules.specs.Slots.{room_of}
 use Rattle.layout.specs.Layout.{in_bytes, slot_bytes}
-use borrow.Author.Rules.{rules}
 use Rattle.layout.proofs.to_bytes.put_slot.Goals as goal
 
 pub returns : goal.returns

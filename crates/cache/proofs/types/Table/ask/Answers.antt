@@ -7,15 +7,11 @@ use Rattle.rules.specs.Table.{used, slot_at}
 use Rattle.slots.specs.Walks.{Found}
 use mathlib.Core.Path.{◌≡◌, refl, ap}
 use native.Mathlib.Omega.{arith}
-use borrow.Author.Rules.{rules}
-use Rattle.ground.proofs.Decided.{clash, yes_not, no_not, no_of, yes_of}
-use Rattle.rules.specs.declared.AskAnswer.{AskAnswer}
+use Rattle.ground.proofs.Decided.{clash, no_of, yes_of}
 use Rattle.rules.specs.declared.AskAnswer.TheVariants as ask
 use Rattle.rules.specs.Slots.{is_used, is_waiting, is_in_flight}
-use Rattle.rules.specs.Table as rules
-use Rattle.rules.specs.Table.{Sound, Issued, InSlot}
-use Rattle.rules.specs.Ask.{ask_word, Asked}
-use Rattle.rules.specs.Calls.{ask_number, Asks}
+use Rattle.rules.specs.Table.{Sound}
+use Rattle.rules.specs.Ask.{Asked}
 use Rattle.cache.specs.Seen.{seen}
 use Rattle.cache.proofs.Looks.{ask_unsound, ask_unissued, ask_granted}
 use Rattle.cache.proofs.types.Table.ask.Goals as goal

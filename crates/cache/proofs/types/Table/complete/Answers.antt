@@ -3,8 +3,7 @@ use Prim.Native.Nat.{◌<◌}
 use mathlib.Core.Path.{sym, ap, subst, ◌∙◌}
 use mathlib.Core.List.{List}
 use native.Mathlib.Omega.{arith}
-use borrow.Author.Rules.{rules}
-use Rattle.ground.proofs.Decided.{yes_not, no_not, no_of, yes_of}
+use Rattle.ground.proofs.Decided.{no_of, yes_of}
 use Rattle.slots.proofs.OnBlock.{some_flies, none_flies}
 use Rattle.rules.specs.declared.Answer.TheVariants as answer
 use Rattle.rules.specs.declared.Slot.{Slot}

@@ -1,5 +1,4 @@
 -- `Table::complete_write` meets its contract: both calls meet theirs. Assumes nothing.
-use borrow.Author.Rules.{rules}
 use mathlib.Core.Path.{ap}
 use Rattle.rules.specs.Joint.{tried}
 use Rattle.cache.specs.Seen.{seen, completion}

@@ -1,10 +1,9 @@
 -- `Table::count` meets its contract. Assumes nothing.
 use mathlib.Core.Path.{sym, ap, subst, ◌∙◌}
-use borrow.Author.Rules.{rules}
 use Prim.Native.Nat.{ℕ}
 use native.Mathlib.Omega.{arith}
 use lib.Count.{ones}
-use Rattle.ground.proofs.Decided.{yes_not, no_not, no_of, yes_of}
+use Rattle.ground.proofs.Decided.{no_of, yes_of}
 use Rattle.rules.specs.declared.CountAnswer.TheVariants as count
 use Rattle.rules.specs.Table.{Sound, waits_on}
 use Rattle.masks.proofs.SetSize.{ones_many}

@@ -2,11 +2,10 @@
 use Prim.Native.Nat.{ℕ}
 use mathlib.Core.Path.{◌≡◌, sym, subst}
 use mathlib.Core.Bool.{Bool, true, cond}
-use borrow.Author.Rules.{rules}
 use Rattle.masks.specs.Sets.{set_of}
 use Rattle.ground.proofs.Decided.{said_yes}
 use Rattle.rules.specs.Table.{used}
-use Rattle.rules.specs.Create.{Change, change_of}
+use Rattle.rules.specs.Create.{change_of}
 use Rattle.rules.specs.Calls.{Creates}
 use Rattle.rules.specs.Passed.{CreateReady}
 use Rattle.slots.specs.Walks.{taken_rooms}

@@ -1,5 +1,4 @@
 -- `Table::empty` meets its contract: 64 free slots. Assumes nothing.
-use borrow.Author.Rules.{rules}
 use Rattle.rules.specs.Table.{list_from}
 use Rattle.cache.proofs.types.Table.empty.Goals as goal
 

@@ -1,7 +1,6 @@
 -- `Table::patch` meets its contract. Assumes nothing.
 use Prim.Native.Nat.{ℕ}
 use mathlib.Core.Path.{ap}
-use borrow.Author.Rules.{rules}
 use Rattle.rules.specs.Slots.{with_befores}
 use Rattle.rules.specs.Create.{patch}
 use Rattle.rules.specs.Create.{change_of}

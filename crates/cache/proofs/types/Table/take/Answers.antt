@@ -1,21 +1,18 @@
 -- `Table::take` meets its contract: 8, 9 and 10, then the patch, the undo area and the image that are made. Assumes nothing.
-use Prim.Native.Nat.{ℕ, ◌+◌}
+use Prim.Native.Nat.{ℕ}
 use mathlib.Core.Path.{◌≡◌, sym, ap, subst, ◌∙◌}
 use mathlib.Core.List.{List}
 use native.Mathlib.Omega.{arith}
-use borrow.Author.Rules.{rules}
 use Rattle.masks.specs.Sets.{set_of}
 use Rattle.masks.specs.Lowest.{Lowest, LowestOr, Outside}
 use Rattle.masks.proofs.Laws.{has_of}
 use Rattle.masks.proofs.Lowest.{lowest_same}
-use Rattle.rules.specs.declared.Hold.{Hold}
 use Rattle.rules.specs.declared.Slot.{Slot}
-use Rattle.rules.specs.Sizes.{last_number}
 use Rattle.rules.specs.Table.{used}
-use Rattle.rules.specs.Create.{Change, change_of, FreeSlot, HoldOf, accepted}
+use Rattle.rules.specs.Create.{change_of, FreeSlot, HoldOf, accepted}
 use Rattle.accept.specs.Asked.{HeldAs}
 use Rattle.cache.specs.Seen.{seen}
-use Rattle.cache.specs.Taking.{Taking, with_patch}
+use Rattle.cache.specs.Taking.{with_patch}
 use Rattle.cache.proofs.Accepted.{create_no_number, create_no_slot, create_no_room, create-granted, image_made, undo_made}
 use Rattle.cache.proofs.types.Table.take.Goals as goal
 

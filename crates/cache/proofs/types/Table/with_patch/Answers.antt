@@ -2,7 +2,6 @@
 use Prim.Native.Nat.{◌+◌}
 use mathlib.Core.Path.{ap, ◌∙◌}
 use mathlib.Core.List.{List}
-use borrow.Author.Rules.{rules}
 use Rattle.rules.specs.declared.Slot.{Slot}
 use Rattle.rules.specs.Table as rules
 use Rattle.rules.specs.Table.{with_slots, with_next}

@@ -1,7 +1,6 @@
 -- `Table::write` meets its contract: what is judged early, the largest set, the block handed out and the patches sent. Assumes nothing.
 use mathlib.Core.Path.{sym, ap, ap₂, subst, ◌∙◌}
 use mathlib.Core.List.{List}
-use borrow.Author.Rules.{rules}
 use Rattle.rules.specs.declared.Slot.{Slot}
 use Rattle.rules.specs.Table.{with_slots}
 use Rattle.rules.specs.Write.{Largest, sent}
