@@ -15,7 +15,8 @@ use Rattle.rules.specs.Table.{Table}
 use Rattle.rules.specs.Create.{Change}
 use Rattle.rules.specs.Ask.{ask_word}
 use Rattle.rules.specs.Refusals.{Case, case, First, WrongSize}
-use Rattle.rules.specs.Calls.{plain_number, Opening, Opens, create_number, patch_number, hard_or_soft, Creation, Creates, write_number, sent_set, Writing, Writes}
+use Rattle.rules.specs.Calls.{plain_number, Opening, Opens, create_number, patch_number, hard_or_soft, Creation, Creates}
+use Rattle.rules.specs.Calls.{write_number, sent_set, Writing, Writes}
 use Rattle.rules.specs.Calls.{Completion, Completes, ask_number, Asks, count_number, counted, Counts}
 use Rattle.rules.specs.Joint.{Joint, CompletesWrites, second_set}
 use Rattle.layout.specs.Layout.{table_bytes, IsTable, table_in, bytes_of}

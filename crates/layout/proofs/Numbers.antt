@@ -8,7 +8,8 @@ use lib.ListN.{get_or}
 use Rattle.layout.specs.Layout.{number_at, in_bytes}
 
 module _ (bytes : List ℕ) (at : ℕ) where
-  pub number_4 : number_at bytes at 4 ≡ ((get_or bytes at 0 + get_or bytes (at + 1) 0 * 256) + get_or bytes (at + 2) 0 * 65536) + get_or bytes (at + 3) 0 * 16777216
+  pub number_4 :
+      number_at bytes at 4 ≡ ((get_or bytes at 0 + get_or bytes (at + 1) 0 * 256) + get_or bytes (at + 2) 0 * 65536) + get_or bytes (at + 3) 0 * 16777216
   unfolding number_at
   number_4 = rw (add-zero at) (omega arith)
 

@@ -64,7 +64,8 @@ abbrev slot_of : State → ℕ → ℕ → ℕ → ℕ → ℕ → Slot
 slot_of u n b o l m = record { state = u; number = n; block = b; offset = o; len = l; befores = m }
 
 -- slots that agree field by field are one
-pub same_slot : {u v : State} {n n' b b' o o' l l' m m' : ℕ} → u ≡ v → n ≡ n' → b ≡ b' → o ≡ o' → l ≡ l' → m ≡ m' → slot_of u n b o l m ≡ slot_of v n' b' o' l' m'
+pub same_slot : {u v : State} {n n' b b' o o' l l' m m' : ℕ} → u ≡ v → n ≡ n' → b ≡ b' → o ≡ o' → l ≡ l' → m ≡ m'
+    → slot_of u n b o l m ≡ slot_of v n' b' o' l' m'
 same_slot p q r s t w = cc
 
 slot_back : (s : Slot) (rest : List ℕ) → SlotFits s → slot_in (slot_bytes s ++ rest) 0 ≡ s

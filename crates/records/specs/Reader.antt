@@ -1,6 +1,7 @@
 -- Between crates, need not be believed: what the reader finds at the start of lent bytes (a record, none yet, or what no record begins with), worked out
 -- from the bytes. RoundTrip.antt says what its answers mean.
-use Rattle.std.specs.Prelude.{ℕ, zero, suc, ◌+◌, ◌-◌, ◌*◌, ◌/◌, min, Bool, false, cond, not, ◌&&◌, List, [], ◌∷◌, ◌++◌, eqb, ltb, leb, length, get_or, replicate}
+use Rattle.std.specs.Prelude.{ℕ, zero, suc, ◌+◌, ◌-◌, ◌*◌, ◌/◌, min, eqb, ltb, leb, Bool, false, cond, not, ◌&&◌}
+use Rattle.std.specs.Prelude.{List, [], ◌∷◌, ◌++◌, length, get_or, replicate}
 use Rattle.spans.specs.Spans.{part}
 use Rattle.rules.specs.Create.{change_of}
 use Rattle.records.specs.declared.types.Found.{Found}

@@ -8,7 +8,8 @@ use Rattle.records.specs.Reader.{number_at, next_in, call_in}
 -- the reader takes the bytes as these calls, record after record, to their end; how long a record is, its head says
 pub data Taken : List ℕ → List Call → Type 0 where
   none : Taken [] []
-  and_more : {w : List ℕ} {f : Found} {cs : List Call} → next_in w ≡ next.Record f → Taken (drop (head_bytes + number_at w 1 2) w) cs → Taken w (call_in w f ∷ cs)
+  and_more : {w : List ℕ} {f : Found} {cs : List Call} → next_in w ≡ next.Record f
+      → Taken (drop (head_bytes + number_at w 1 2) w) cs → Taken w (call_in w f ∷ cs)
 
 pub record RoundTrip : Type 0 where
   -- reading back what was written gives the same calls, for every list of calls that the writer takes

@@ -88,9 +88,11 @@ module _ (ss : List Slot) (left : ℕ → Bool) (undo : List ℕ) where
   length_back_down : (first n : ℕ) (block : List ℕ) → length (back_down ss left undo first n block) ≡ length block
   unfolding back_down
   length_back_down first zero block = refl
-  length_back_down first (suc n) block = length_back_down first n (back_number ss left undo (first + n) slots block) ∙ length_back_number (first + n) slots block
+  length_back_down first (suc n) block =
+      length_back_down first n (back_number ss left undo (first + n) slots block) ∙ length_back_number (first + n) slots block
 
-pub length_handed_out : (t : Table) (b s : ℕ) (image undo : List ℕ) → length image ≡ image_bytes → b < blocks → length (handed_out t b s image undo) ≡ block_bytes
+pub length_handed_out : (t : Table) (b s : ℕ) (image undo : List ℕ) → length image ≡ image_bytes → b < blocks
+    → length (handed_out t b s image undo) ≡ block_bytes
 unfolding handed_out
 length_handed_out t b s image undo e l =
     length_back_down t.slots (left_behind t.slots b s) undo t.first (t.next - t.first) (part image (block_start b) block_bytes)

@@ -118,7 +118,8 @@ unfolding list_from accepted accepted_slots joined joined_slots added patch befo
 P9 = write-none r8 P8b.1 1 lent (omega arith) refl 2 0 refl refl refl 2 (omega arith) refl refl
 
 P10a : Done r8 2
-unfolding list_from accepted accepted_slots joined joined_slots added patch befores is_in set_below sent sent_slots completed completed_slots landed_slots has bit
+unfolding list_from accepted accepted_slots joined joined_slots added patch befores is_in set_below sent sent_slots
+    completed completed_slots landed_slots has bit
 P10a = complete_row r8 P8b.1 2 1 (omega arith) (omega arith) refl
 
 abbrev r10 : Radio

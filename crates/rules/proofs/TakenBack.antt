@@ -139,7 +139,8 @@ module _ (ss : List Slot) (left left' : ℕ → Bool) (undo : List ℕ) where
     -- slots with another number are passed alike
     other_number : (n j : ℕ) → j < 64 → ((slot_at ss r).number ≡ n → ⊥) → (left j && eqb (slot_at ss j).number n) ≡ (left' j && eqb (slot_at ss j).number n)
     other_number n j l d = elim (ℕ_discrete j r) [
-      | yes q ↦ rw (ne_eqb (slot_at ss j).number n (λ e. d (ap (λ (k : ℕ). (slot_at ss k).number) (sym q) ∙ e))) (and-false (left j) ∙ sym (and-false (left' j)))
+      | yes q ↦ rw (ne_eqb (slot_at ss j).number n (λ e. d (ap (λ (k : ℕ). (slot_at ss k).number) (sym q) ∙ e)))
+          (and-false (left j) ∙ sym (and-false (left' j)))
       | no q ↦ ap (λ (v : Bool). v && eqb (slot_at ss j).number n) (others_left j l q)
     ]
 

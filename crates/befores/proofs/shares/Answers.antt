@@ -10,5 +10,6 @@ pub returns : goal.returns
 returns c =
     let a = c.args in
     let later : c.if-a-b.late ≡ max a.o a.p = elim c.if-a-b.branch [ then-a-b w ↦ omega arith | else-a-b w ↦ omega arith ] in
-    let earlier : c.if-a_end-b_end.early ≡ min (a.o + a.l) (a.p + a.m) = elim c.if-a_end-b_end.branch [ then-a_end-b_end w ↦ omega arith | else-a_end-b_end w ↦ omega arith ] in
+    let earlier : c.if-a_end-b_end.early ≡ min (a.o + a.l) (a.p + a.m) =
+    elim c.if-a_end-b_end.branch [ then-a_end-b_end w ↦ omega arith | else-a_end-b_end w ↦ omega arith ] in
     ap₂ ltb later earlier

@@ -96,7 +96,8 @@ module _ {h : History} {b s : ℕ} (d : Sending h b s) where
     past_range : (i : ℕ) → covers (plain a) b i ≡ false → get_or (splice xs (slot_at ss j).offset old) i 0 ≡ get_or xs i 0
     past_range i k = other (dec_lt i (slot_at ss j).offset) (dec_lt i ((slot_at ss j).offset + (slot_at ss j).len))
       where
-        other : Dec (i < (slot_at ss j).offset) → Dec (i < (slot_at ss j).offset + (slot_at ss j).len) → get_or (splice xs (slot_at ss j).offset old) i 0 ≡ get_or xs i 0
+        other : Dec (i < (slot_at ss j).offset) → Dec (i < (slot_at ss j).offset + (slot_at ss j).len)
+            → get_or (splice xs (slot_at ss j).offset old) i 0 ≡ get_or xs i 0
         other (yes p) z = splice_below xs (slot_at ss j).offset old i p
         other (no p) (no z) = splice_above xs (slot_at ss j).offset old i (omega (arith, old_length))
         other (no p) (yes z) =

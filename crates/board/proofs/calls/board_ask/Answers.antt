@@ -27,4 +27,5 @@ returns-in-Committed c =
 pub returns-in-Refused : goal.returns-in-Refused
 returns-in-Refused c =
     let table_here = yes_of c.is_table.result c.is_table.ensures c.if-not-is_table.false in
-    ask_here c.ask-answer.result (ask.Refused c.in-Refused.k) table_here (c.table_in-came.ensures ∙ read_whole _ table_here.size) c.ask-answer.ensures c.in-Refused.is
+    ask_here c.ask-answer.result (ask.Refused c.in-Refused.k) table_here
+    (c.table_in-came.ensures ∙ read_whole _ table_here.size) c.ask-answer.ensures c.in-Refused.is

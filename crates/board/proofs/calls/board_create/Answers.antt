@@ -32,11 +32,13 @@ pub returns-in-Granted : goal.returns-in-Granted
 returns-in-Granted c =
     let table_here = yes_of c.is_table.result c.is_table.ensures c.if-not-is_table.false in
     let seen_here = c.table_in-came.ensures ∙ read_whole _ table_here.size in
-    create_granted_here (creation c.create-o.result c.create-o.new.image c.create-o.new.undo) table_here seen_here c.create-o.ensures c.in-Granted.n c.in-Granted.h c.in-Granted.is c.hold_number.ensures
+    create_granted_here (creation c.create-o.result c.create-o.new.image c.create-o.new.undo) table_here
+    seen_here c.create-o.ensures c.in-Granted.n c.in-Granted.h c.in-Granted.is c.hold_number.ensures
     (c.store.ensures ∙ stored_whole _ _ table_here.size)
 
 pub returns-in-Refused : goal.returns-in-Refused
 returns-in-Refused c =
     let table_here = yes_of c.is_table.result c.is_table.ensures c.if-not-is_table.false in
     let seen_here = c.table_in-came.ensures ∙ read_whole _ table_here.size in
-    create_refused_here (creation c.create-o.result c.create-o.new.image c.create-o.new.undo) table_here seen_here c.create-o.ensures c.in-Refused.k c.in-Refused.is
+    create_refused_here (creation c.create-o.result c.create-o.new.image c.create-o.new.undo) table_here
+    seen_here c.create-o.ensures c.in-Refused.k c.in-Refused.is

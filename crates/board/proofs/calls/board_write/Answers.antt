@@ -25,7 +25,9 @@ returns-then-not-is_table c =
     let none_here = no_of c.is_table.result c.is_table.ensures c.if-not-is_table.true in
     let d = none_here in
     write-none _ _ _ _ _ 2 d
-    (passes (⊎_elim (λ n. n c.if-image-ne-IMAGE_BYTES.false) (⊎_elim (λ n. n c.if-undo-ne-UNDO_BYTES.false) (λ n. n c.if-handed-ne-BLOCK_BYTES.false))) (holds d))
+    (passes
+    (⊎_elim (λ n. n c.if-image-ne-IMAGE_BYTES.false) (⊎_elim (λ n. n c.if-undo-ne-UNDO_BYTES.false) (λ n. n c.if-handed-ne-BLOCK_BYTES.false)))
+    (holds d))
 
 pub write_table-requires : goal.write_table-requires
 write_table-requires c =

@@ -12,11 +12,13 @@ pub returns-in-Granted : goal.returns-in-Granted
 returns-in-Granted c =
     let table_here = c.requires in
     let seen_here = c.table_in-came.ensures ∙ read_whole _ table_here.size in
-    write_granted_here (writing c.write-o.result c.args.image.now c.args.undo.now c.write-o.new.handed) table_here seen_here c.write-o.ensures c.in-Granted.s c.in-Granted.is
+    write_granted_here (writing c.write-o.result c.args.image.now c.args.undo.now c.write-o.new.handed) table_here
+    seen_here c.write-o.ensures c.in-Granted.s c.in-Granted.is
     (c.store.ensures ∙ stored_whole _ _ table_here.size)
 
 pub returns-in-Refused : goal.returns-in-Refused
 returns-in-Refused c =
     let table_here = c.requires in
     let seen_here = c.table_in-came.ensures ∙ read_whole _ table_here.size in
-    write_refused_here (writing c.write-o.result c.args.image.now c.args.undo.now c.write-o.new.handed) table_here seen_here c.write-o.ensures c.in-Refused.k c.in-Refused.is
+    write_refused_here (writing c.write-o.result c.args.image.now c.args.undo.now c.write-o.new.handed) table_here
+    seen_here c.write-o.ensures c.in-Refused.k c.in-Refused.is

@@ -19,33 +19,53 @@ returns-then-handed-ne-BLOCK_BYTES c = holds (inr (inr c.if-handed-ne-BLOCK_BYTE
 pub returns-then-not-sound : goal.returns-then-not-sound
 returns-then-not-sound c =
     let sized_here : let a = c.args in WriteSized a.setting a.sound a.on a.image.now a.undo.now a.handed.now a.block =
-    record { image_whole = c.if-image-ne-IMAGE_BYTES.false; undo_whole = c.if-undo-undo_bytes.false ∙ c.undo_bytes.ensures; block_whole = c.if-handed-ne-BLOCK_BYTES.false } in
+    record {
+      image_whole = c.if-image-ne-IMAGE_BYTES.false;
+      undo_whole = c.if-undo-undo_bytes.false ∙ c.undo_bytes.ensures;
+      block_whole = c.if-handed-ne-BLOCK_BYTES.false;
+    } in
     write_unsound _ _ _ _ _ _ _ sized_here (λ e. clash e c.if-not-sound.true)
 
 pub returns-then-block-gt-LAST_BLOCK : goal.returns-then-block-gt-LAST_BLOCK
 returns-then-block-gt-LAST_BLOCK c =
     let sized_here : let a = c.args in WriteSized a.setting a.sound a.on a.image.now a.undo.now a.handed.now a.block =
-    record { image_whole = c.if-image-ne-IMAGE_BYTES.false; undo_whole = c.if-undo-undo_bytes.false ∙ c.undo_bytes.ensures; block_whole = c.if-handed-ne-BLOCK_BYTES.false } in
+    record {
+      image_whole = c.if-image-ne-IMAGE_BYTES.false;
+      undo_whole = c.if-undo-undo_bytes.false ∙ c.undo_bytes.ensures;
+      block_whole = c.if-handed-ne-BLOCK_BYTES.false;
+    } in
     let sound_here = c.if-not-sound.false in
     write_no_block _ _ _ _ _ _ _ sized_here sound_here c.if-block-gt-LAST_BLOCK.true
 
 pub returns-then-on-ne0 : goal.returns-then-on-ne0
 returns-then-on-ne0 c =
     let sized_here : let a = c.args in WriteSized a.setting a.sound a.on a.image.now a.undo.now a.handed.now a.block =
-    record { image_whole = c.if-image-ne-IMAGE_BYTES.false; undo_whole = c.if-undo-undo_bytes.false ∙ c.undo_bytes.ensures; block_whole = c.if-handed-ne-BLOCK_BYTES.false } in
+    record {
+      image_whole = c.if-image-ne-IMAGE_BYTES.false;
+      undo_whole = c.if-undo-undo_bytes.false ∙ c.undo_bytes.ensures;
+      block_whole = c.if-handed-ne-BLOCK_BYTES.false;
+    } in
     let sound_here = c.if-not-sound.false in
     write_flies _ _ _ _ _ _ _ sized_here sound_here (omega (arith, c.if-block-gt-LAST_BLOCK.false)) c.if-on-ne0.true
 
 pub returns-then-on-eq0 : goal.returns-then-on-eq0
 returns-then-on-eq0 c =
     let sized_here : let a = c.args in WriteSized a.setting a.sound a.on a.image.now a.undo.now a.handed.now a.block =
-    record { image_whole = c.if-image-ne-IMAGE_BYTES.false; undo_whole = c.if-undo-undo_bytes.false ∙ c.undo_bytes.ensures; block_whole = c.if-handed-ne-BLOCK_BYTES.false } in
+    record {
+      image_whole = c.if-image-ne-IMAGE_BYTES.false;
+      undo_whole = c.if-undo-undo_bytes.false ∙ c.undo_bytes.ensures;
+      block_whole = c.if-handed-ne-BLOCK_BYTES.false;
+    } in
     let sound_here = c.if-not-sound.false in
     write_none_waits _ _ _ _ _ _ _ sized_here sound_here (omega (arith, c.if-block-gt-LAST_BLOCK.false)) c.if-on-ne0.false c.if-on-eq0.true
 
 pub returns : goal.returns
 returns c =
     let sized_here : let a = c.args in WriteSized a.setting a.sound a.on a.image.now a.undo.now a.handed.now a.block =
-    record { image_whole = c.if-image-ne-IMAGE_BYTES.false; undo_whole = c.if-undo-undo_bytes.false ∙ c.undo_bytes.ensures; block_whole = c.if-handed-ne-BLOCK_BYTES.false } in
+    record {
+      image_whole = c.if-image-ne-IMAGE_BYTES.false;
+      undo_whole = c.if-undo-undo_bytes.false ∙ c.undo_bytes.ensures;
+      block_whole = c.if-handed-ne-BLOCK_BYTES.false;
+    } in
     let sound_here = c.if-not-sound.false in
     write_ready _ _ _ _ _ _ _ sized_here sound_here (omega (arith, c.if-block-gt-LAST_BLOCK.false)) c.if-on-ne0.false c.if-on-eq0.false

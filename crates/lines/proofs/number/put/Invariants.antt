@@ -9,7 +9,8 @@ use Rattle.lines.proofs.FromTheRight.{last_digits}
 use Rattle.lines.proofs.number.put.Given as goal
 
 abbrev pub invariant-loop-i : goal.invariant-loop-i
-invariant-loop-i l = (l.i ≤ l.k) × (length l.out ≡ length l.initial.out) × (splice l.out l.at (last_digits l.i l.rest) ≡ splice l.initial.out l.at (decimal l.n))
+invariant-loop-i l =
+    (l.i ≤ l.k) × (length l.out ≡ length l.initial.out) × (splice l.out l.at (last_digits l.i l.rest) ≡ splice l.initial.out l.at (decimal l.n))
 
 abbrev pub decreases-loop-i : goal.decreases-loop-i
 decreases-loop-i l = l.i

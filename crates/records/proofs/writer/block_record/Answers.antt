@@ -13,7 +13,8 @@ pub returns-then-buffer-ne-RECORD_BYTES : goal.returns-then-buffer-ne-RECORD_BYT
 returns-then-buffer-ne-RECORD_BYTES c = λ call o. wrong_size (record_of call) c.if-buffer-ne-RECORD_BYTES.true
 
 pub returns-then-block-gt255 : goal.returns-then-block-gt255
-returns-then-block-gt255 c = λ call o. no_fit (record_of call) c.if-buffer-ne-RECORD_BYTES.false (λ f. absurd (omega (arith, c.if-block-gt255.true, o.fits_not f)))
+returns-then-block-gt255 c = λ call o.
+    no_fit (record_of call) c.if-buffer-ne-RECORD_BYTES.false (λ f. absurd (omega (arith, c.if-block-gt255.true, o.fits_not f)))
 
 pub returns : goal.returns
 unfolding high_first

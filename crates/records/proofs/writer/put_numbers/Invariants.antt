@@ -8,7 +8,8 @@ use Rattle.records.proofs.writer.put_numbers.Given as goal
 
 abbrev pub invariant-loop-i : goal.invariant-loop-i
 invariant-loop-i l =
-    (l.i ≤ length l.named) × (l.i-end ≡ length l.named) × (l.buffer ≡ splice l.initial.buffer 7 (four_each (take l.i l.named))) × (length l.buffer ≡ length l.initial.buffer)
+    (l.i ≤ length l.named) × (l.i-end ≡ length l.named) ×
+    (l.buffer ≡ splice l.initial.buffer 7 (four_each (take l.i l.named))) × (length l.buffer ≡ length l.initial.buffer)
 
 abbrev pub decreases-loop-i : goal.decreases-loop-i
 decreases-loop-i l = length l.named - l.i

@@ -20,7 +20,8 @@ use Rattle.cache.proofs.types.Table.create.Goals as goal
 pub returns-then-refusal-ne0 : goal.returns-then-refusal-ne0
 returns-then-refusal-ne0 c =
     create-refused (seen c.args.self) c.judge-verdict.result.sound c.judge-verdict.ensures.decides c.args.image.now
-    c.args.undo.now (change_of c.args.block c.args.offset c.args.bytes.now c.args.named.now) c.create_refusal-refusal.result c.if-refusal-ne0.true c.create_refusal-refusal.ensures
+    c.args.undo.now (change_of c.args.block c.args.offset c.args.bytes.now c.args.named.now) c.create_refusal-refusal.result
+    c.if-refusal-ne0.true c.create_refusal-refusal.ensures
 
 -- what the verdict on the table says besides, where the table is sound
 where_true : {b : Bool} {m n : ℕ} → b ≡ true → m ≡ cond b n 0 → m ≡ n
@@ -79,5 +80,6 @@ returns-in-Joins c =
     let a = c.args in
     subst (Means a.self.setting a.self.slots a.block) c.in-Joins.is means_here in
     let m = joins_here in
-    subst (Creates (seen c.args.self) c.args.image.now c.args.undo.now (change_of c.args.block c.args.offset c.args.bytes.now c.args.named.now)) (sym (c.join.ensures c.args.undo.now))
+    subst (Creates (seen c.args.self) c.args.image.now c.args.undo.now (change_of c.args.block c.args.offset c.args.bytes.now c.args.named.now))
+    (sym (c.join.ensures c.args.undo.now))
     (create-joined _ _ _ _ ready_here c.in-Joins.j m.0 m.1)

@@ -38,5 +38,6 @@ returns c =
     ap₂ (granted (slot_at a.self.slots a.j).number undo)
     (c.with_slots-next.ensures
     ∙ ap (λ (ss : List Slot). with_slots ss t)
-    (c.joined.ensures ∙ slots_made a.self.slots (change_of a.block a.offset a.bytes.now a.named.now) c.added-more.result a.j (c.added-more.ensures ∙ added_same a.self.slots (change_of a.block a.offset a.bytes.now a.named.now))))
+    (c.joined.ensures ∙ slots_made a.self.slots (change_of a.block a.offset a.bytes.now a.named.now) c.added-more.result a.j
+    (c.added-more.ensures ∙ added_same a.self.slots (change_of a.block a.offset a.bytes.now a.named.now))))
     (c.put.ensures ∙ image_made a.image.now (change_of a.block a.offset a.bytes.now a.named.now) c.place.ensures)

@@ -41,7 +41,8 @@ returns-in_default c =
     let lowest_here : Lowest 64 (FreeSlot c.args.self.slots) c.lowest_outside-j.result =
     lowest_of.there (omega (arith, c.if-j-gt-LAST_SLOT.false)) in
     let a = c.args in
-    create_no_room _ _ _ _ known.ready known.own numbered c.lowest_outside-j.result lowest_here
+    create_no_room _ _ _ _ known.ready known.own
+    numbered c.lowest_outside-j.result lowest_here
     (subst (HeldAs a.self.setting a.self.slots a.block) c.in_default.is known.held)
 
 pub patch-patch-requires : goal.patch-patch-requires
@@ -68,7 +69,8 @@ returns c =
     let a = c.args in
     subst (HeldAs a.self.setting a.self.slots a.block) c.in-Of.is known.held in
     let a = c.args in
-    create-granted (seen a.self) a.image.now a.undo.now (change_of a.block a.offset a.bytes.now a.named.now) known.ready known.own numbered c.lowest_outside-j.result lowest_here c.in-Of.hold held_here
+    create-granted (seen a.self) a.image.now a.undo.now (change_of a.block a.offset a.bytes.now a.named.now) known.ready known.own
+    numbered c.lowest_outside-j.result lowest_here c.in-Of.hold held_here
     (seen c.with_patch.result) c.put.new.image c.keep.new.undo
     (c.with_patch.ensures ∙ ap (λ (x : Slot). with_patch (seen a.self) x c.lowest_outside-j.result c.in-Of.hold) c.patch-patch.ensures)
     (c.put.ensures ∙ image_made a.image.now (change_of a.block a.offset a.bytes.now a.named.now) c.place-at.ensures)
