@@ -1,4 +1,4 @@
--- `settle::complete::landed_slot` meets its contract: each way out is a case of landedSlot. Assumes nothing.
+-- `settle::complete::landed_slot` meets its contract: each way out is a case of landed_slot. Assumes nothing.
 use Prim.Native.Nat.{ℕ}
 use mathlib.Core.Path.{sym, ap, ◌∙◌}
 use Rattle.rules.specs.Slots.{with_befores}
