@@ -8,7 +8,7 @@ use Rattle.rules.specs.Rounds.{round}
 use Rattle.rules.proofs.Rounds.{round_lt, round_sub, searched_settled, searched_round}
 use Rattle.send.proofs.Striking.{Walked, walk_starts, walk_passes, walk_strikes, walk_ends, walk_breaks}
 use Rattle.send.proofs.largest.largest.Goals as goal
-use Rattle.send.proofs.largest.largest.Goals.{Else-kept-began, Then-kept-began, else-has, else-walk-test}
+use Rattle.send.proofs.largest.largest.Goals.{Left-walk, else-has, else-walk-test}
 use Rattle.send.proofs.largest.largest.Goals.{then-has+then-not-within+else-has-2, then-has+else-not-within, then-walk-test+then-has+then-not-within+then-has-2}
 
 pub loop-i-init : goal.loop-i-init
@@ -37,22 +37,9 @@ walk-preserved c =
       ],
     )
 
--- the walk left, at its end or at a hard patch, has made a round: where it struck something, and where it did not
-made_smaller : (c : Else-kept-began) → c.walk-test.kept ≡ round c.args.slots c.args.on.hard c.loop-i.began
-made_smaller c =
-    let s = c.loop-i.began in
-    let ss = c.args.slots in
-    let hard = c.args.on.hard in
-    elim c.walk-test.branch [
-      | else-walk-test w ↦
-          w.kept-is ∙ walk_ends ss hard s (subst (λ (k : ℕ). Walked ss hard s k c.walk.kept) (omega arith) c.walk.invariant.1)
-      | then-walk-test+then-has+then-not-within+then-has-2 w ↦
-          w.kept-is ∙ walk_breaks ss hard s w.walk-test.true (sym w.has-then-not-within.ensures ∙ w.if-has-2.true)
-          (rw (sym w.has.ensures ∙ w.if-has.true, sym w.within.ensures ∙ w.if-not-within.true))
-    ]
-
-made_settled : (c : Then-kept-began) → c.walk-test.kept ≡ round c.args.slots c.args.on.hard c.loop-i.began
-made_settled c =
+-- the walk left, at its end or at a hard patch, has made a round
+made : (c : Left-walk) → c.walk-test.kept ≡ round c.args.slots c.args.on.hard c.loop-i.began
+made c =
     let s = c.loop-i.began in
     let ss = c.args.slots in
     let hard = c.args.on.hard in
@@ -66,16 +53,16 @@ made_settled c =
 
 pub loop-i-smaller : goal.loop-i-smaller
 loop-i-smaller c =
-    let r = made_smaller c in
+    let r = made c.before in
     let s = c.loop-i.began in
     rw r (size_less _ s (round_lt _ _ s) c.loop-i.invariant.0 (round_sub _ _ s) (λ e. c.if-kept-began.false (r ∙ e)))
 
 pub loop-i-preserved : goal.loop-i-preserved
 loop-i-preserved c =
     let s = c.loop-i.began in
-    rw (made_smaller c) (round_lt _ _ s, searched_round _ _ s c.loop-i.invariant.0 ∙ c.loop-i.invariant.1)
+    rw (made c.before) (round_lt _ _ s, searched_round _ _ s c.loop-i.invariant.0 ∙ c.loop-i.invariant.1)
 
 pub returns : goal.returns
 returns c =
     let s = c.loop-i.began in
-    c.if-kept-began.true ∙ sym (searched_settled _ _ s (sym (made_settled c) ∙ c.if-kept-began.true)) ∙ c.loop-i.invariant.1
+    c.if-kept-began.true ∙ sym (searched_settled _ _ s (sym (made c.before) ∙ c.if-kept-began.true)) ∙ c.loop-i.invariant.1
