@@ -11,7 +11,7 @@ use Rattle.rules.specs.declared.Slot.{Slot}
 use Rattle.masks.proofs.Lowest.{lowest_one}
 use Rattle.accept.specs.declared.types.Entry.{Entry}
 use Rattle.accept.specs.declared.types.Entry.TheVariants as entry
-use Rattle.accept.specs.declared.types.Holding.TheVariants as holding
+use Rattle.std.proofs.Common.{Some}
 use Rattle.accept.specs.Asked.{FirstNumbered, Enters}
 
 -- of two that are the first with the lowest number neither is below the other
@@ -40,7 +40,7 @@ enters_one (Enters.hard w n) (Enters.soft m r) = absurd (m w)
 enters_one (Enters.hard w n) (Enters.full m r) = absurd (m w)
 enters_one (Enters.soft n r) (Enters.joins j p) = absurd (n j.would_be_hard)
 enters_one (Enters.soft n r) (Enters.hard w m) = absurd (n w)
-enters_one (Enters.soft n r) (Enters.soft m s) = ap (λ (x : ℕ). entry.Own (holding.Of (hold.Soft x))) (lowest_one r s)
+enters_one (Enters.soft n r) (Enters.soft m s) = ap (λ (x : ℕ). entry.Own (Some (hold.Soft x))) (lowest_one r s)
 enters_one (Enters.soft n r) (Enters.full m s) = absurd (s _ r.within r.holds)
 enters_one (Enters.full n r) (Enters.joins j p) = absurd (n j.would_be_hard)
 enters_one (Enters.full n r) (Enters.hard w m) = absurd (n w)

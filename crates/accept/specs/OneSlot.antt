@@ -1,8 +1,7 @@
 -- Inside this crate, need not be believed: what the private tests answer. No public promise cites this file: those cite Joins of `rules`.
-use Rattle.std.specs.Prelude.{ℕ, ◌≤◌, ◌<◌, ◌≡◌, true, List}
+use Rattle.std.specs.Prelude.{ℕ, ◌≤◌, ◌<◌, ◌≡◌, true, List, Option, MatchOption}
 use Rattle.masks.specs.Sets.{has, Meet}
 use Rattle.rules.specs.declared.Slot.{Slot}
-use Rattle.rules.specs.Sizes.{slots}
 use Rattle.rules.specs.Slots.{is_used}
 use Rattle.rules.specs.Table.{slot_at}
 
@@ -17,7 +16,6 @@ pub record Best (ss : List Slot) (m n r : ℕ) : Type 0 where
   pub lowest : (i : ℕ) → i < n → has m i ≡ true → (slot_at ss r).number ≤ (slot_at ss i).number
   pub first : (i : ℕ) → i < r → has m i ≡ true → (slot_at ss r).number < (slot_at ss i).number
 
--- r is that slot of the set m, or 64 where it has none
-pub record LowestNumberedOr (ss : List Slot) (m r : ℕ) : Type 0 where
-  pub there : r < slots → Best ss m slots r
-  pub nowhere : slots ≤ r → (i : ℕ) → i < slots → has m i ≡ true → ⊥
+-- r is that slot, or None where no slot below n is in the set
+abbrev pub LowestNumberedOr : List Slot → ℕ → ℕ → Option ℕ → Type 0
+LowestNumberedOr ss m n r = MatchOption r ((i : ℕ) → i < n → has m i ≡ true → ⊥) (Best ss m n)

@@ -2,16 +2,10 @@
 // promises can name it.
 use rules::Hold;
 
-// Hard, or soft with its room; or it would be soft, and no room is free.
-#[derive(Clone, Copy)]
-pub enum Holding {
-    Of(Hold),
-    Full,
-}
-
-// The slot whose patch the change joins; or an entry of its own.
-#[derive(Clone, Copy)]
+// The slot whose patch the change joins; or an entry of its own: hard, or soft with its room. None: it
+// would be soft, and no room is free.
+#[derive(Clone, Copy, Debug, PartialEq, Eq)]
 pub enum Entry {
     Joins(usize),
-    Own(Holding),
+    Own(Option<Hold>),
 }

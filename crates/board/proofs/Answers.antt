@@ -3,28 +3,25 @@ use Prim.Native.Nat.{ℕ, ◌<◌}
 use mathlib.Core.Path.{◌≡◌, refl, sym, ap, ap₂, subst, ◌∙◌}
 use mathlib.Core.List.{List}
 use mathlib.Core.Logic.{◌⊎◌}
-use mathlib.Core.Option.{Option, none, some}
+use mathlib.Core.Option.{Option, some}
 use native.Mathlib.Omega.{arith}
 use borrow.Author.Tests.{ne_eqb}
 use lib.ListN.{length}
 use Rattle.rules.specs.declared.Setting.TheVariants.{Board}
-use Rattle.rules.specs.declared.Answer.{Answer}
-use Rattle.rules.specs.declared.Answer.TheVariants as plain
 use Rattle.rules.specs.declared.AskAnswer.{AskAnswer}
-use Rattle.rules.specs.declared.CountAnswer.{CountAnswer}
-use Rattle.rules.specs.declared.CreateAnswer.{CreateAnswer}
-use Rattle.rules.specs.declared.CreateAnswer.TheVariants as create
+use Rattle.std.specs.Prelude.{Result, Ok, Err}
+use Rattle.rules.specs.declared.Created.{Created}
+use Rattle.rules.specs.declared.refusals.Refusal.{Refusal}
+use Rattle.rules.specs.Refusals.{number_of}
+use Rattle.rules.proofs.Refused.{refusal_not0}
 use Rattle.rules.specs.declared.Hold.{Hold}
-use Rattle.rules.specs.declared.Hold.TheVariants as hold
-use Rattle.rules.specs.declared.WriteAnswer.{WriteAnswer}
-use Rattle.rules.specs.declared.WriteAnswer.TheVariants as write
 use Rattle.rules.specs.Settings.{rooms, undo_bytes}
 use Rattle.rules.specs.Table.{Table}
 use Rattle.rules.specs.Create.{Change, HoldOf}
 use Rattle.rules.specs.Ask.{ask_word}
 use Rattle.rules.specs.Refusals.{First, WrongSize}
-use Rattle.rules.specs.Calls.{plain_number, Opening, Opens, create_number, hard_or_soft, Creation, Accepts, Creates, write_number, Writing, Writes}
-use Rattle.rules.specs.Calls.{Completion, Completes, ask_number, Asks, count_number, counted, Counts}
+use Rattle.rules.specs.Calls.{Opening, Opens, hard_or_soft, Creation, Accepts, Creates, Writing, Writes}
+use Rattle.rules.specs.Calls.{Completion, Completes, ask_number, Asks, answer_number, counted, Counts}
 use Rattle.rules.proofs.Rooms.{rooms_most}
 use Rattle.layout.specs.Layout.{table_bytes, IsTable, table_in, bytes_of}
 use Rattle.board.specs.Calls.{table_after, no_table_cases, OpenCall, hold_number, CreateEnd, create_end, create_none, CreateCall}
@@ -36,10 +33,11 @@ use Rattle.board.specs.Calls.{joint_none, JointCall}
 pub open_other : (table : List ℕ) (first : ℕ) → (length table ≡ table_bytes → ⊥) → OpenCall table first 2 table
 open_other table first n = record { sized = λ e. absurd (n e); other = λ d. (refl, refl) }
 
-pub open_here : {table after : List ℕ} {first : ℕ} (o : Opening) (a : Answer) → length table ≡ table_bytes → Opens Board first o → o.answer ≡ a
+pub open_here : {table after : List ℕ} {first : ℕ} (o : Opening) (a : Result (Unit {0}) Refusal) → length table ≡ table_bytes
+    → Opens Board first o → o.answer ≡ a
     → after ≡ bytes_of o.table
-    → OpenCall table first (plain_number a) after
-open_here o a e h p q = record { sized = λ d. (o, h, ap plain_number (sym p), q); other = λ n. absurd (n e) }
+    → OpenCall table first (answer_number a) after
+open_here o a e h p q = record { sized = λ d. (o, h, ap answer_number (sym p), q); other = λ n. absurd (n e) }
 
 -- ---- ask and count
 
@@ -56,8 +54,8 @@ ask_here {n = n} a b i e h p = record {
 pub count_none : (table : List ℕ) (b : ℕ) → (IsTable table → ⊥) → CountCall table b 2 0
 count_none table b d = record { is_table = λ i. absurd (d i); no_table = λ e. (refl, refl) }
 
-pub count_here : {table : List ℕ} {n : ℕ} {t : Table} (a b : CountAnswer) → IsTable table → t ≡ table_in table → Counts t n a → a ≡ b
-    → CountCall table n (count_number b) (counted b)
+pub count_here : {table : List ℕ} {n : ℕ} {t : Table} (a b : Result ℕ Refusal) → IsTable table → t ≡ table_in table → Counts t n a → a ≡ b
+    → CountCall table n (answer_number b) (counted b)
 count_here {n = n} a b i e h p = record {
   is_table = λ d. (b, subst (λ (t : Table). Counts t n b) e (subst (Counts _ n) p h), refl, refl);
   no_table = λ d. absurd (d i);
@@ -69,26 +67,21 @@ pub complete_none : (table : List ℕ) (b : ℕ) → (IsTable table → ⊥) →
 complete_none table b d = record { is_table = λ i. absurd (d i); no_table = λ e. (refl, refl) }
 
 module _ {table : List ℕ} {b : ℕ} {t : Table} (o : Completion) (i : IsTable table) (e : t ≡ table_in table) (h : Completes t b o) where
-  pub complete_granted_here : {after : List ℕ} → o.answer ≡ plain.Granted → after ≡ bytes_of o.table → CompleteCall table b 0 after
+  pub complete_granted_here : {after : List ℕ} → o.answer ≡ Ok tt → after ≡ bytes_of o.table → CompleteCall table b 0 after
   complete_granted_here p q = record {
     is_table = λ d. (
       o,
       subst (λ (x : Table). Completes x b o) e h,
-      ap plain_number (sym p),
+      ap answer_number (sym p),
       q ∙ ap
-          (λ (a : Answer). table_after (plain_number a) table o.table) (sym p),
+          (λ (a : Result (Unit {0}) Refusal). table_after (answer_number a) table o.table) (sym p),
     );
     no_table = λ d. absurd (d i);
   }
 
-  not_zero : (k : ℕ) → o.answer ≡ plain.Refused k → k ≡ 0 → ⊥
-  not_zero k p z =
-      let w = ap (λ (x : Completion). x.answer) (h.grant (ap plain_number p ∙ z)) in
-      let c : ◌≡◌ {A = ℕ} 0 1 = cc in omega arith
-
-  pub complete_refused_here : (k : ℕ) → o.answer ≡ plain.Refused k → CompleteCall table b k table
-  complete_refused_here k p = record {
-    is_table = λ d. (o, subst (λ (x : Table). Completes x b o) e h, ap plain_number (sym p), rw (p, ne_eqb k 0 (not_zero k p)));
+  pub complete_refused_here : (r : Refusal) → o.answer ≡ Err r → CompleteCall table b (number_of r) table
+  complete_refused_here r p = record {
+    is_table = λ d. (o, subst (λ (x : Table). Completes x b o) e h, ap answer_number (sym p), rw (p, ne_eqb (number_of r) 0 (refusal_not0 r)));
     no_table = λ d. absurd (d i);
   }
 
@@ -107,63 +100,47 @@ create-none table image undo c k d f = record {
   no_table = λ e. (subst (λ (n : ℕ). First (no_table_cases table (WrongSize 16384 image ⊎ WrongSize n undo)) k) (sym board_undo) f, refl);
 }
 
--- hard or soft is one word, and no word is none
-said : {h : Hold} → ◌≡◌ {A = Option Hold} none (some h) → ⊥
-said {h} e = word h (ap hold_number e)
-  where
-    word : (h : Hold) → 0 ≡ hold_number (some h) → ⊥
-    word hold.Hard n = omega arith
-    word (hold.Soft r) n = omega arith
-
--- what is accepted is not refused
-not_refused : {t : Table} {image undo : List ℕ} {c : Change} {o : Creation} (k : ℕ) → Accepts t image undo c o → o.answer ≡ create.Refused k → ⊥
-not_refused k (Accepts.takes own g) p = said (sym (ap hard_or_soft p) ∙ g.says)
-not_refused k (Accepts.joins j g) p = said (sym (ap hard_or_soft p) ∙ g.says)
-
 -- a room is below what a set can have, so its number fits
-pub hold_fits : {t : Table} {image undo : List ℕ} {c : Change} {o : Creation} {n : ℕ} {h : Hold} → Creates t image undo c o → o.answer ≡ create.Granted n h
-    → hold_number (some h) < 4294967296
-hold_fits {t} {image} {undo} {c} {o} {n} {h} made p = by (made.grant (ap create_number p))
+pub hold_fits : {t : Table} {image undo : List ℕ} {c : Change} {o : Creation} {a : Created} → Creates t image undo c o → o.answer ≡ Ok a
+    → hold_number (some a.hold) < 4294967296
+hold_fits {t} {image} {undo} {c} {o} {a} made p = by (made.grant (ap answer_number p))
   where
-    same : {x : Hold} → hard_or_soft o.answer ≡ some x → hold_number (some x) < 4294967296 → hold_number (some h) < 4294967296
+    same : {x : Hold} → hard_or_soft o.answer ≡ some x → hold_number (some x) < 4294967296 → hold_number (some a.hold) < 4294967296
     same e l = subst (λ (y : Option Hold). hold_number y < 4294967296) (sym e ∙ ap hard_or_soft p) l
 
     below : {x : Hold} → HoldOf t.setting t.slots c.block x → hold_number (some x) < 4294967296
     below (HoldOf.hard w) = omega arith
     below (HoldOf.soft w l) = omega (arith, l.within, rooms_most t.setting)
 
-    by : Accepts t image undo c o → hold_number (some h) < 4294967296
+    by : Accepts t image undo c o → hold_number (some a.hold) < 4294967296
     by (Accepts.takes own g) = same g.says (below g.hard-or-soft)
     by (Accepts.joins j g) = same g.says (omega arith)
 
 module _ {table image undo : List ℕ} {c : Change} {t : Table} (o : Creation) (i : IsTable table) (e : t ≡ table_in table) (h : Creates t image undo c o) where
   -- the creation, its answer written out
-  abbrev created_with : CreateAnswer → Creation
+  abbrev created_with : Result Created Refusal → Creation
   created_with a = record { answer = a; table = o.table; image = o.image; undo = o.undo }
 
-  create-end : (a : CreateAnswer) → o.answer ≡ a → (s : CreateEnd) → s ≡ create_end table (created_with a) → CreateCall table image undo c s
+  create-end : (a : Result Created Refusal) → o.answer ≡ a → (s : CreateEnd) → s ≡ create_end table (created_with a) → CreateCall table image undo c s
   create-end a p s q = record {
     is_table = λ d. (
       o,
       subst (λ (x : Table). Creates x image undo c o) e h,
-      subst (λ (y : CreateAnswer). s ≡ create_end table (created_with y)) (sym p) q,
+      subst (λ (y : Result Created Refusal). s ≡ create_end table (created_with y)) (sym p) q,
     );
     no_table = λ d. absurd (d i);
   }
 
-  pub create_granted_here : {after : List ℕ} {held : ℕ} (n : ℕ) (k : Hold) → o.answer ≡ create.Granted n k → held ≡ hold_number (some k)
+  pub create_granted_here : {after : List ℕ} {held : ℕ} (a : Created) → o.answer ≡ Ok a → held ≡ hold_number (some a.hold)
       → after ≡ bytes_of o.table
-      → CreateCall table image undo c (record { refusal = 0; number = n; hold = held; table = after; image = o.image; undo = o.undo })
-  create_granted_here n k p q s =
-      create-end (create.Granted n k) p _
-      (ap₂ (λ (x : ℕ) (y : List ℕ). record { refusal = 0; number = n; hold = x; table = y; image = o.image; undo = o.undo }) q s)
+      → CreateCall table image undo c (record { refusal = 0; number = a.number; hold = held; table = after; image = o.image; undo = o.undo })
+  create_granted_here a p q s =
+      create-end (Ok a) p _
+      (ap₂ (λ (x : ℕ) (y : List ℕ). record { refusal = 0; number = a.number; hold = x; table = y; image = o.image; undo = o.undo }) q s)
 
-  pub create_refused_here : (k : ℕ) → o.answer ≡ create.Refused k
-      → CreateCall table image undo c (record { refusal = k; number = 0; hold = 0; table = table; image = o.image; undo = o.undo })
-  create_refused_here k p = create-end (create.Refused k) p _ (rw (ne_eqb k 0 not_zero))
-    where
-      not_zero : k ≡ 0 → ⊥
-      not_zero z = not_refused k (h.grant (ap create_number p ∙ z)) p
+  pub create_refused_here : (r : Refusal) → o.answer ≡ Err r
+      → CreateCall table image undo c (record { refusal = number_of r; number = 0; hold = 0; table = table; image = o.image; undo = o.undo })
+  create_refused_here r p = create-end (Err r) p _ (rw (ne_eqb (number_of r) 0 (refusal_not0 r)))
 
 -- ---- write
 
@@ -181,32 +158,27 @@ write-none table image undo handed b k d f = record {
 module _ {table image undo handed : List ℕ} {b : ℕ} {t : Table} (o : Writing) (i : IsTable table) (e : t ≡ table_in table)
     (h : Writes t image undo handed b o) where
   -- the writing, its answer written out
-  abbrev written_with : WriteAnswer → Writing
+  abbrev written_with : Result ℕ Refusal → Writing
   written_with a = record { answer = a; table = o.table; image = o.image; undo = o.undo; block = o.block }
 
-  write-end : (a : WriteAnswer) → o.answer ≡ a → (s : WriteEnd) → s ≡ write_end table (written_with a) → WriteCall table image undo handed b s
+  write-end : (a : Result ℕ Refusal) → o.answer ≡ a → (s : WriteEnd) → s ≡ write_end table (written_with a) → WriteCall table image undo handed b s
   write-end a p s q = record {
     is_table = λ d. (
       o,
       subst (λ (x : Table). Writes x image undo handed b o) e h,
-      subst (λ (y : WriteAnswer). s ≡ write_end table (written_with y)) (sym p) q,
+      subst (λ (y : Result ℕ Refusal). s ≡ write_end table (written_with y)) (sym p) q,
     );
     no_table = λ d. absurd (d i);
   }
 
-  pub write_granted_here : {after : List ℕ} (s : ℕ) → o.answer ≡ write.Granted s → after ≡ bytes_of o.table
+  pub write_granted_here : {after : List ℕ} (s : ℕ) → o.answer ≡ Ok s → after ≡ bytes_of o.table
       → WriteCall table image undo handed b (record { refusal = 0; set = s; table = after; image = o.image; undo = o.undo; handed = o.block })
   write_granted_here s p q =
-      write-end (write.Granted s) p _ (ap (λ (y : List ℕ). record { refusal = 0; set = s; table = y; image = o.image; undo = o.undo; handed = o.block }) q)
+      write-end (Ok s) p _ (ap (λ (y : List ℕ). record { refusal = 0; set = s; table = y; image = o.image; undo = o.undo; handed = o.block }) q)
 
-  pub write_refused_here : (k : ℕ) → o.answer ≡ write.Refused k
-      → WriteCall table image undo handed b (record { refusal = k; set = 0; table = table; image = o.image; undo = o.undo; handed = o.block })
-  write_refused_here k p = write-end (write.Refused k) p _ (rw (ne_eqb k 0 not_zero))
-    where
-      not_zero : k ≡ 0 → ⊥
-      not_zero z =
-          let w = ap (λ (x : Writing). x.answer) (h.grant (ap write_number p ∙ z)).whole in
-          let c : ◌≡◌ {A = ℕ} 0 1 = cc in omega arith
+  pub write_refused_here : (r : Refusal) → o.answer ≡ Err r
+      → WriteCall table image undo handed b (record { refusal = number_of r; set = 0; table = table; image = o.image; undo = o.undo; handed = o.block })
+  write_refused_here r p = write-end (Err r) p _ (rw (ne_eqb (number_of r) 0 (refusal_not0 r)))
 
 -- ---- the joint call
 

@@ -1,6 +1,6 @@
 -- WHAT IS KEPT OVER SLEEP IS THE TABLE: the bytes that a granted call leaves are a table, and mean the very next table of document 01.
 -- Assumed: what was read are bytes, as memory has them.
-use Prim.Native.Nat.{ℕ, zero, suc, ◌+◌, ◌/◌, ◌^◌, ◌<◌}
+use Prim.Native.Nat.{ℕ, zero, suc, ◌+◌, ◌*◌, ◌/◌, ◌^◌, ◌<◌}
 use mathlib.Core.Path.{◌≡◌, refl, sym, subst}
 use mathlib.Core.Bool.{Bool, true, false, cond}
 use mathlib.Core.List.{List, [], ◌∷◌, ◌++◌}
@@ -28,16 +28,16 @@ use Rattle.rules.specs.Create.{added, with_more, joined_slots, joined}
 use Rattle.rules.specs.Write.{sent_state, sent_slot, sent_slots, sent}
 use Rattle.rules.specs.Complete.{without_befores, landed_slot, landed_slots, landing, completed_slots, completed}
 use Rattle.rules.specs.Refusals.{First, TakesSlot, open_cases}
-use Rattle.rules.specs.Calls.{plain_number, create_number, write_number, Opening, Opens, Creation, Accepts, Creates, Writing, Writes}
+use Rattle.rules.specs.Calls.{answer_number, Opening, Opens, Creation, Accepts, Creates, Writing, Writes}
 use Rattle.rules.specs.Calls.{Completion, Completes, sent_set}
 use Rattle.rules.proofs.Cases.{passed}
 use Rattle.rules.proofs.SlotsBy.{slot_by, length_by}
 use Rattle.rules.specs.Passed.{CreateReady, CreatePassed}
 use Rattle.rules.proofs.Granted.{create_passed}
 use Rattle.rules.proofs.Rooms.{rooms_most}
+use native.Mathlib.Nat.{add-zero, add_assoc}
 use Rattle.layout.specs.Layout.{number_at, state_of, slot_in, slot_start, table_in, IsTable, in_bytes, tag_of, slot_bytes, slots_bytes, bytes_of, SlotFits}
 use Rattle.layout.specs.Layout.{TableFits}
-use Rattle.layout.proofs.Numbers.{number_4, number_8}
 use Rattle.layout.proofs.RoundTrip.{read_back}
 
 -- ---- what is read from bytes fits
@@ -97,6 +97,16 @@ state_fits tag room l = by (eqb tag 0) (eqb tag 1) (eqb tag 2) (eqb tag 3)
     by false false true s = l
     by false false false true = omega arith
     by false false false false = omega arith
+
+-- a number of 4 and of 8 bytes from its parts
+number_4 : (xs : List ℕ) (at : ℕ)
+    → number_at xs at 4 ≡ ((get_or xs at 0 + get_or xs (at + 1) 0 * 256) + get_or xs (at + 2) 0 * 65536) + get_or xs (at + 3) 0 * 16777216
+unfolding number_at
+number_4 xs at = rw (add-zero at) (omega arith)
+
+number_8 : (xs : List ℕ) (at : ℕ) → number_at xs at 8 ≡ number_at xs at 4 + number_at xs (at + 4) 4 * 4294967296
+unfolding number_at
+number_8 xs at = simp add_assoc (omega arith)
 
 module _ (xs : List ℕ) (b : Bytes xs) where
   four_fits : (at : ℕ) → number_at xs at 4 < 2 ^ 32
@@ -218,17 +228,17 @@ opened_fits : (m : ℕ) → m < 2 ^ 32 → TableFits (opened Board m)
 opened_fits m l = by_fits m m (λ i. free_slot) refl l l (λ i b. free_fits)
 
 pub open_kept : (n : ℕ) (o : Opening) → Opens Board n o → ReadsBack o.table
-open_kept n o p = go (ℕ_discrete (plain_number o.answer) 0)
+open_kept n o p = go (ℕ_discrete (answer_number o.answer) 0)
   where
-    go : Dec (plain_number o.answer ≡ 0) → ReadsBack o.table
-    go (no d) = subst (λ (x : Opening). ReadsBack x.table) (sym (p.refusal d)) (read_back (opened Board 1) (opened_fits 1 (omega arith)))
+    go : Dec (answer_number o.answer ≡ 0) → ReadsBack o.table
+    go (no d) = subst (λ (x : Opening). ReadsBack x.table) (sym (p.refusal d).1) (read_back (opened Board 1) (opened_fits 1 (omega arith)))
     go (yes z) =
         let f = passed (λ e. omega arith) (subst (First (open_cases n)) z p.first) in
         let b : (last_number < n → ⊥) = λ l. f.0 (inr l) in
         subst (λ (x : Opening). ReadsBack x.table) (sym (p.grant z)) (read_back (opened Board n) (opened_fits n (omega (arith, b))))
 
 module _ (xs : List ℕ) (bytes : Bytes xs) where
-  pub create_kept : (image undo : List ℕ) (c : Change) (o : Creation) → Creates (table_in xs) image undo c o → create_number o.answer ≡ 0
+  pub create_kept : (image undo : List ℕ) (c : Change) (o : Creation) → Creates (table_in xs) image undo c o → answer_number o.answer ≡ 0
       → ReadsBack o.table
   create_kept image undo c o p z = go (p.grant z)
     where
@@ -244,14 +254,14 @@ module _ (xs : List ℕ) (bytes : Bytes xs) where
           subst (λ (x : Creation). ReadsBack x.table) (sym g.whole)
           (read_back (joined t c g.slot) (joined_fits t (table_fits xs bytes) c g.slot))
 
-  pub write_kept : (image undo handed : List ℕ) (b : ℕ) (o : Writing) → Writes (table_in xs) image undo handed b o → write_number o.answer ≡ 0
+  pub write_kept : (image undo handed : List ℕ) (b : ℕ) (o : Writing) → Writes (table_in xs) image undo handed b o → answer_number o.answer ≡ 0
       → ReadsBack o.table
   write_kept image undo handed b o p z =
       let g = p.grant z in
       subst (λ (x : Writing). ReadsBack x.table) (sym g.whole)
       (read_back (sent (table_in xs) (sent_set o.answer)) (sent_fits (table_in xs) (table_fits xs bytes) (sent_set o.answer)))
 
-  pub complete_kept : (b : ℕ) (o : Completion) → Completes (table_in xs) b o → plain_number o.answer ≡ 0 → ReadsBack o.table
+  pub complete_kept : (b : ℕ) (o : Completion) → Completes (table_in xs) b o → answer_number o.answer ≡ 0 → ReadsBack o.table
   complete_kept b o p z =
       subst (λ (x : Completion). ReadsBack x.table) (sym (p.grant z))
       (read_back (completed (table_in xs) b) (completed_fits (table_in xs) (table_fits xs bytes) b))

@@ -9,7 +9,7 @@ use Rattle.rules.specs.declared.Setting.TheVariants.{Board}
 use Rattle.rules.specs.Sizes.{slots}
 use Rattle.rules.specs.Create.{Change}
 use Rattle.rules.specs.Ask.{ask_word}
-use Rattle.rules.specs.Calls.{Opening, Completion, plain_number, ask_number, count_number, counted}
+use Rattle.rules.specs.Calls.{Opening, Completion, answer_number, ask_number, counted}
 use Rattle.rules.proofs.Cases.{first_one}
 use Rattle.rules.proofs.OneAnswer.{open_one, create_one, write_one, complete_one, complete_write_one, ask_one, count_one}
 use Rattle.records.specs.Record.{Call}
@@ -52,7 +52,7 @@ module _ {table : List ℕ} where
           let a = p.sized e in
           let b = q.sized e in
           let o = open_one Board first a.0 b.0 a.1 b.1 in
-          (a.2 ∙ ap (λ (x : Opening). plain_number x.answer) o ∙ sym b.2, a.3 ∙ ap (λ (x : Opening). bytes_of x.table) o ∙ sym b.3)
+          (a.2 ∙ ap (λ (x : Opening). answer_number x.answer) o ∙ sym b.2, a.3 ∙ ap (λ (x : Opening). bytes_of x.table) o ∙ sym b.3)
       by (no d) = ((p.other d).0 ∙ sym (q.other d).0, (p.other d).1 ∙ sym (q.other d).1)
 
   pub create_call_one : {image undo : List ℕ} {c : Change} {e e' : CreateEnd} → CreateCall table image undo c e → CreateCall table image undo c e' → e ≡ e'
@@ -90,9 +90,9 @@ module _ {table : List ℕ} where
           let x = p.is_table i in
           let y = q.is_table i in
           let o = complete_one (table_in table) b x.0 y.0 x.1 y.1 in (
-            x.2 ∙ ap (λ (z : Completion). plain_number z.answer) o ∙ sym y.2,
+            x.2 ∙ ap (λ (z : Completion). answer_number z.answer) o ∙ sym y.2,
             x.3 ∙ ap
-                (λ (z : Completion). table_after (plain_number z.answer) table z.table) o ∙ sym y.3,
+                (λ (z : Completion). table_after (answer_number z.answer) table z.table) o ∙ sym y.3,
           )
       by (no n) = ((p.no_table n).0 ∙ sym (q.no_table n).0, (p.no_table n).1 ∙ sym (q.no_table n).1)
 
@@ -126,7 +126,7 @@ module _ {table : List ℕ} where
           let x = p.is_table i in
           let y = q.is_table i in
           let o = count_one (table_in table) b x.0 y.0 x.1 y.1 in
-          (x.2 ∙ ap count_number o ∙ sym y.2, x.3 ∙ ap counted o ∙ sym y.3)
+          (x.2 ∙ ap answer_number o ∙ sym y.2, x.3 ∙ ap counted o ∙ sym y.3)
       by (no d) = ((p.no_table d).0 ∙ sym (q.no_table d).0, (p.no_table d).1 ∙ sym (q.no_table d).1)
 
 -- the five that record a call

@@ -1,23 +1,22 @@
 -- What each exported function promises: its refusal number, the numbers it writes through pointers and every lent byte afterwards, granted and
 -- refused alike. On bytes that are a table it is the call of document 01 on the table that they mean; on others it is 2, and nothing changes.
-use Rattle.std.specs.Prelude.{ℕ, ◌+◌, ◌≡◌, cond, List, [], ◌∷◌, ◌⊎◌, eqb, length}
+use Rattle.std.specs.Prelude.{ℕ, ◌+◌, ◌≡◌, cond, List, [], ◌∷◌, ◌⊎◌, eqb, length, Some, None, Result}
+use Rattle.std.specs.Prelude as Prelude
 use Rattle.std.proofs.Math.Option.{Option, none, some}
 use Rattle.rules.specs.declared.Setting.TheVariants.{Board}
 use Rattle.rules.specs.declared.Hold.{Hold}
 use Rattle.rules.specs.declared.Hold.TheVariants as hold
-use Rattle.rules.specs.declared.SecondAnswer.{SecondAnswer}
-use Rattle.rules.specs.declared.SecondAnswer.TheVariants as second
+use Rattle.rules.specs.declared.refusals.Refusal.{Refusal}
 use Rattle.rules.specs.declared.AskAnswer.{AskAnswer}
-use Rattle.rules.specs.declared.CountAnswer.{CountAnswer}
 use Rattle.rules.specs.Sizes.{image_bytes, block_bytes}
 use Rattle.rules.specs.Settings.{undo_bytes}
 use Rattle.rules.specs.Table.{Table}
 use Rattle.rules.specs.Create.{Change}
 use Rattle.rules.specs.Ask.{ask_word}
 use Rattle.rules.specs.Refusals.{Case, case, First, WrongSize}
-use Rattle.rules.specs.Calls.{plain_number, Opening, Opens, create_number, patch_number, hard_or_soft, Creation, Creates}
-use Rattle.rules.specs.Calls.{write_number, sent_set, Writing, Writes}
-use Rattle.rules.specs.Calls.{Completion, Completes, ask_number, Asks, count_number, counted, Counts}
+use Rattle.rules.specs.Calls.{Opening, Opens, patch_number, hard_or_soft, Creation, Creates}
+use Rattle.rules.specs.Calls.{sent_set, Writing, Writes}
+use Rattle.rules.specs.Calls.{Completion, Completes, ask_number, Asks, answer_number, counted, Counts}
 use Rattle.rules.specs.Joint.{Joint, CompletesWrites, second_set}
 use Rattle.layout.specs.Layout.{table_bytes, IsTable, table_in, bytes_of}
 
@@ -31,7 +30,7 @@ no_table_cases table wrong = case 1 wrong ∷ case 2 (IsTable table → ⊥) ∷
 
 -- OPEN asks nothing of the bytes but their length. Refused 15, it writes the empty table with first 1
 pub record OpenCall (table : List ℕ) (first refusal : ℕ) (after : List ℕ) : Type 0 where
-  pub sized : length table ≡ table_bytes → (o : Opening) × Opens Board first o × (refusal ≡ plain_number o.answer) × (after ≡ bytes_of o.table)
+  pub sized : length table ≡ table_bytes → (o : Opening) × Opens Board first o × (refusal ≡ answer_number o.answer) × (after ≡ bytes_of o.table)
   pub other : (length table ≡ table_bytes → ⊥) → (refusal ≡ 2) × (after ≡ table)
 
 -- CREATE. hold: 0 no word, 1 hard, 2 + r soft with undo room r
@@ -51,10 +50,10 @@ pub record CreateEnd : Type 0 where
 
 abbrev pub create_end : List ℕ → Creation → CreateEnd
 create_end table o = record {
-  refusal = create_number o.answer;
+  refusal = answer_number o.answer;
   number = patch_number o.answer;
   hold = hold_number (hard_or_soft o.answer);
-  table = table_after (create_number o.answer) table o.table;
+  table = table_after (answer_number o.answer) table o.table;
   image = o.image;
   undo = o.undo;
 }
@@ -78,9 +77,9 @@ pub record WriteEnd : Type 0 where
 
 abbrev pub write_end : List ℕ → Writing → WriteEnd
 write_end table o = record {
-  refusal = write_number o.answer;
+  refusal = answer_number o.answer;
   set = sent_set o.answer;
-  table = table_after (write_number o.answer) table o.table;
+  table = table_after (answer_number o.answer) table o.table;
   image = o.image;
   undo = o.undo;
   handed = o.block;
@@ -97,18 +96,17 @@ pub record WriteCall (table image undo handed : List ℕ) (block : ℕ) (e : Wri
 
 -- COMPLETE
 pub record CompleteCall (table : List ℕ) (block refusal : ℕ) (after : List ℕ) : Type 0 where
-  pub is_table : IsTable table → (o : Completion) × Completes (table_in table) block o × (refusal ≡ plain_number o.answer)
-      × (after ≡ table_after (plain_number o.answer) table o.table)
+  pub is_table : IsTable table → (o : Completion) × Completes (table_in table) block o × (refusal ≡ answer_number o.answer)
+      × (after ≡ table_after (answer_number o.answer) table o.table)
   pub no_table : (IsTable table → ⊥) → (refusal ≡ 2) × (after ≡ table)
 
 -- THE JOINT CALL. second: the write's refusal number, 0 granted; or, where completing was refused, not tried, a number that no refusal has
 abbrev pub not_tried : ℕ
 not_tried = 4294967295
 
-abbrev pub second_as : SecondAnswer → ℕ
-second_as (second.Granted s) = 0
-second_as (second.Refused k) = k
-second_as second.NotTried = not_tried
+abbrev pub second_as : Prelude.Option (Result ℕ Refusal) → ℕ
+second_as (Some a) = answer_number a
+second_as None = not_tried
 
 -- what it leaves; first: completing's refusal number; set: bit i where slot i was sent
 pub record JointEnd : Type 0 where
@@ -123,10 +121,10 @@ pub record JointEnd : Type 0 where
 -- the table is written where completing is granted, also where the write is refused: the completion stands
 abbrev pub joint_end : List ℕ → Joint → JointEnd
 joint_end table o = record {
-  first = plain_number o.first;
+  first = answer_number o.first;
   second = second_as o.second;
   set = second_set o.second;
-  table = table_after (plain_number o.first) table o.table;
+  table = table_after (answer_number o.first) table o.table;
   image = o.image;
   undo = o.undo;
   handed = o.block;
@@ -147,5 +145,5 @@ pub record AskCall (table : List ℕ) (asked refusal state : ℕ) : Type 0 where
 
 -- COUNT
 pub record CountCall (table : List ℕ) (block refusal count : ℕ) : Type 0 where
-  pub is_table : IsTable table → (a : CountAnswer) × Counts (table_in table) block a × (refusal ≡ count_number a) × (count ≡ counted a)
+  pub is_table : IsTable table → (a : Result ℕ Refusal) × Counts (table_in table) block a × (refusal ≡ answer_number a) × (count ≡ counted a)
   pub no_table : (IsTable table → ⊥) → (refusal ≡ 2) × (count ≡ 0)

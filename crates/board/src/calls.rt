@@ -12,23 +12,21 @@ use cache::types::Table;
 use layout::from_bytes::{is_table, table_in};
 use layout::sizes::TABLE_BYTES;
 use layout::to_bytes::store;
-use rules::refusals::{BUFFER_SIZE, NOT_SOUND};
+use rules::refusals::Refusal;
 use rules::sizes::{BLOCK_BYTES, IMAGE_BYTES, UNDO_BYTES};
-use rules::{Answer, AskAnswer, CountAnswer, CreateAnswer, Hold, Setting, WriteAnswer};
+use rules::{AskAnswer, Change, Hold, Setting};
 
 pub fn board_open(table: &mut [u8], first: u32) -> u32
     ensures { OpenCall table.old first result table.new }
 {
     if table.len() != TABLE_BYTES {
-        return NOT_SOUND;
+        return Refusal::NotSound.number();
     }
-    let o = Table::open(Setting::Board, first);
-    let next = o.table;
-    store(table, next);
-    let answer = o.answer;
-    match answer {
-        Answer::Granted => 0,
-        Answer::Refused(k) => k,
+    let opened = Table::open(Setting::Board, first);
+    store(table, &opened.table);
+    match opened.answer {
+        Ok(()) => 0,
+        Err(refusal) => refusal.number(),
     }
 }
 
@@ -67,26 +65,26 @@ pub fn board_create(
     *number = 0;
     *hold = 0;
     if !is_table(table) {
-        if image.len() != IMAGE_BYTES {
-            return BUFFER_SIZE;
+        if image.len() != IMAGE_BYTES || undo.len() != UNDO_BYTES {
+            return Refusal::BufferSize.number();
         }
-        if undo.len() != UNDO_BYTES {
-            return BUFFER_SIZE;
-        }
-        return NOT_SOUND;
+        return Refusal::NotSound.number();
     }
-    let came = table_in(table);
-    let o = came.create(image, undo, block, offset, bytes, named);
-    let answer = o.answer;
-    match answer {
-        CreateAnswer::Granted(n, h) => {
-            let next = o.table;
-            store(table, next);
-            *number = n;
-            *hold = hold_number(h);
+    let change = Change {
+        block,
+        offset,
+        bytes,
+        named,
+    };
+    let created = table_in(table).create(image, undo, &change);
+    match created.answer {
+        Ok(patch) => {
+            store(table, &created.table);
+            *number = patch.number;
+            *hold = hold_number(patch.hold);
             0
         }
-        CreateAnswer::Refused(k) => k,
+        Err(refusal) => refusal.number(),
     }
 }
 
@@ -113,19 +111,17 @@ fn write_table(
 {
     *set = 0;
     if table.len() != TABLE_BYTES {
-        return NOT_SOUND;
+        return Refusal::NotSound.number();
     }
     let came = table_in(table);
-    let o = came.write(image, undo, handed, block);
-    let answer = o.answer;
-    match answer {
-        WriteAnswer::Granted(s) => {
-            let sent = o.table;
-            store(table, sent);
-            *set = s;
+    let written = came.write(image, undo, handed, block);
+    match written.answer {
+        Ok(sent) => {
+            store(table, &written.table);
+            *set = sent;
             0
         }
-        WriteAnswer::Refused(k) => k,
+        Err(refusal) => refusal.number(),
     }
 }
 
@@ -149,16 +145,10 @@ pub fn board_write(
 {
     *set = 0;
     if !is_table(table) {
-        if image.len() != IMAGE_BYTES {
-            return BUFFER_SIZE;
+        if image.len() != IMAGE_BYTES || undo.len() != UNDO_BYTES || handed.len() != BLOCK_BYTES {
+            return Refusal::BufferSize.number();
         }
-        if undo.len() != UNDO_BYTES {
-            return BUFFER_SIZE;
-        }
-        if handed.len() != BLOCK_BYTES {
-            return BUFFER_SIZE;
-        }
-        return NOT_SOUND;
+        return Refusal::NotSound.number();
     }
     write_table(table, image, undo, handed, block, set)
 }
@@ -169,18 +159,15 @@ fn complete_table(table: &mut [u8], block: u32) -> u32
     ensures { CompleteCall table.old block result table.new }
 {
     if table.len() != TABLE_BYTES {
-        return NOT_SOUND;
+        return Refusal::NotSound.number();
     }
-    let came = table_in(table);
-    let o = came.complete(block);
-    let answer = o.answer;
-    match answer {
-        Answer::Granted => {
-            let next = o.table;
-            store(table, next);
+    let completed = table_in(table).complete(block);
+    match completed.answer {
+        Ok(()) => {
+            store(table, &completed.table);
             0
         }
-        Answer::Refused(k) => k,
+        Err(refusal) => refusal.number(),
     }
 }
 
@@ -188,7 +175,7 @@ pub fn board_complete(table: &mut [u8], block: u32) -> u32
     ensures { CompleteCall table.old block result table.new }
 {
     if !is_table(table) {
-        return NOT_SOUND;
+        return Refusal::NotSound.number();
     }
     complete_table(table, block)
 }
@@ -222,7 +209,7 @@ pub fn board_complete_write(
     *second = NOT_TRIED;
     *set = 0;
     if !is_table(table) {
-        return NOT_SOUND;
+        return Refusal::NotSound.number();
     }
     let first = complete_table(table, x);
     if first != 0 {
@@ -237,25 +224,15 @@ pub fn board_ask(table: &[u8], asked: u32, state: &mut u32) -> u32
 {
     *state = 0;
     if !is_table(table) {
-        return NOT_SOUND;
+        return Refusal::NotSound.number();
     }
-    let came = table_in(table);
-    let answer = came.ask(asked);
-    match answer {
-        AskAnswer::Waiting => {
-            *state = 1;
-            0
-        }
-        AskAnswer::InFlight => {
-            *state = 2;
-            0
-        }
-        AskAnswer::Committed => {
-            *state = 3;
-            0
-        }
-        AskAnswer::Refused(k) => k,
-    }
+    *state = match table_in(table).ask(asked) {
+        AskAnswer::Waiting => 1,
+        AskAnswer::InFlight => 2,
+        AskAnswer::Committed => 3,
+        AskAnswer::Refused(refusal) => return refusal.number(),
+    };
+    0
 }
 
 pub fn board_count(table: &[u8], block: u32, count: &mut u32) -> u32
@@ -263,15 +240,13 @@ pub fn board_count(table: &[u8], block: u32, count: &mut u32) -> u32
 {
     *count = 0;
     if !is_table(table) {
-        return NOT_SOUND;
+        return Refusal::NotSound.number();
     }
-    let came = table_in(table);
-    let answer = came.count(block);
-    match answer {
-        CountAnswer::Granted(n) => {
-            *count = n;
+    match table_in(table).count(block) {
+        Ok(waiting) => {
+            *count = waiting;
             0
         }
-        CountAnswer::Refused(k) => k,
+        Err(refusal) => refusal.number(),
     }
 }

@@ -4,28 +4,29 @@
 ghost use Rattle.std.specs.Prelude.{◌≤◌, ◌≡◌};
 ghost use Rattle.rules.specs.Create.{change_of};
 ghost use Rattle.records.specs.Record.{record_bytes, opens, creates, writes, completes, cuts};
-ghost use Rattle.records.specs.Writer.{record_number, record_length};
+ghost use Rattle.rules.specs.Calls.{answer_number};
+ghost use Rattle.records.specs.Writer.{record_length};
 ghost use Rattle.board.specs.Records.{RecordCall, JointRecordCall};
 
-use records::types::Recorded;
 use records::writer::{complete, complete_write, create, cut, open, write};
+use rules::Change;
+use rules::refusals::Refusal;
 
-fn refusal_of(a: Recorded) -> u32
-    ensures { result ≡ record_number a }
+// A writer's answer in C's words: the record's length behind the pointer, and the refusal's number, or 0.
+fn recorded(answer: Result<usize, Refusal>, length: &mut u32) -> u32
+    requires { record_length answer ≤ record_bytes }
+    ensures refusal { result ≡ answer_number answer }
+    ensures length { length.new ≡ record_length answer }
 {
-    match a {
-        Recorded::Length(_) => 0,
-        Recorded::Refused(k) => k,
-    }
-}
-
-fn length_of(a: Recorded) -> u32
-    requires { record_length a ≤ record_bytes }
-    ensures { result ≡ record_length a }
-{
-    match a {
-        Recorded::Length(n) => n as u32,
-        Recorded::Refused(_) => 0,
+    match answer {
+        Ok(n) => {
+            *length = n as u32;
+            0
+        }
+        Err(refusal) => {
+            *length = 0;
+            refusal.number()
+        }
     }
 }
 
@@ -33,9 +34,7 @@ pub fn board_record_open(buffer: &mut [u8], first: u32, length: &mut u32) -> u32
     ensures { RecordCall buffer.old (opens first)
         (record { refusal = result; length = length.new; buffer = buffer.new }) }
 {
-    let answer = open(buffer, first);
-    *length = length_of(answer);
-    refusal_of(answer)
+    recorded(open(buffer, first), length)
 }
 
 pub fn board_record_create(
@@ -49,27 +48,27 @@ pub fn board_record_create(
     ensures { RecordCall buffer.old (creates (change_of block offset bytes.now named.now))
         (record { refusal = result; length = length.new; buffer = buffer.new }) }
 {
-    let answer = create(buffer, block, offset, bytes, named);
-    *length = length_of(answer);
-    refusal_of(answer)
+    let change = Change {
+        block,
+        offset,
+        bytes,
+        named,
+    };
+    recorded(create(buffer, &change), length)
 }
 
 pub fn board_record_write(buffer: &mut [u8], block: u32, length: &mut u32) -> u32
     ensures { RecordCall buffer.old (writes block)
         (record { refusal = result; length = length.new; buffer = buffer.new }) }
 {
-    let answer = write(buffer, block);
-    *length = length_of(answer);
-    refusal_of(answer)
+    recorded(write(buffer, block), length)
 }
 
 pub fn board_record_complete(buffer: &mut [u8], block: u32, length: &mut u32) -> u32
     ensures { RecordCall buffer.old (completes block)
         (record { refusal = result; length = length.new; buffer = buffer.new }) }
 {
-    let answer = complete(buffer, block);
-    *length = length_of(answer);
-    refusal_of(answer)
+    recorded(complete(buffer, block), length)
 }
 
 // `first` is what completing answered.
@@ -83,9 +82,7 @@ pub fn board_record_complete_write(
     ensures { JointRecordCall buffer.old x y first
         (record { refusal = result; length = length.new; buffer = buffer.new }) }
 {
-    let answer = complete_write(buffer, x, y, first);
-    *length = length_of(answer);
-    refusal_of(answer)
+    recorded(complete_write(buffer, x, y, first), length)
 }
 
 // Bit b of `landed` is set when block b's write in flight landed.
@@ -93,7 +90,5 @@ pub fn board_record_cut(buffer: &mut [u8], landed: u64, length: &mut u32) -> u32
     ensures { RecordCall buffer.old (cuts landed)
         (record { refusal = result; length = length.new; buffer = buffer.new }) }
 {
-    let answer = cut(buffer, landed);
-    *length = length_of(answer);
-    refusal_of(answer)
+    recorded(cut(buffer, landed), length)
 }

@@ -8,7 +8,8 @@ use lib.ListN.{length}
 use Rattle.spans.specs.Spans.{splice, part}
 use Rattle.rules.specs.declared.Hold.{Hold}
 use Rattle.rules.specs.declared.Hold.TheVariants as hold
-use Rattle.rules.specs.declared.CreateAnswer.TheVariants as create
+use Rattle.rules.specs.declared.refusals.Refusal.TheVariants as refusal
+use Rattle.std.specs.Prelude.{Ok}
 use Rattle.rules.specs.Sizes.{room_start, slots, last_number}
 use Rattle.rules.specs.Table.{Table}
 use Rattle.masks.specs.Lowest.{Lowest}
@@ -41,20 +42,20 @@ module _ (t : Table) (image undo : List ℕ) (c : Change) where
         (Accepts.joins joins (record { slot = j; lowest = low; number = refl; says = refl; whole = refl }))
 
     module _ (own : TakesSlot t c) where
-      pub create_no_number : t.next ≡ last_number + 1 → Creates t image undo c (create_refused t image undo 8)
-      create_no_number e = refuses 8 (late (holds (own, e))) refl (λ e. omega arith)
+      pub create_no_number : t.next ≡ last_number + 1 → Creates t image undo c (create_refused t image undo refusal.NoNumber)
+      create_no_number e = refuses refusal.NoNumber (late (holds (own, e))) refl
 
       module _ (last : t.next ≡ last_number + 1 → ⊥) where
-        pub create_no_slot : ((i : ℕ) → i < slots → FreeSlot t.slots i → ⊥) → Creates t image undo c (create_refused t image undo 9)
-        create_no_slot n = refuses 9 (late (passes (λ m. last m.1) (holds (own, n)))) refl (λ e. omega arith)
+        pub create_no_slot : ((i : ℕ) → i < slots → FreeSlot t.slots i → ⊥) → Creates t image undo c (create_refused t image undo refusal.NoSlot)
+        create_no_slot n = refuses refusal.NoSlot (late (passes (λ m. last m.1) (holds (own, n)))) refl
 
         module _ (j : ℕ) (low : Lowest slots (FreeSlot t.slots) j) where
           -- neither 8 nor 9 holds
           slotted : {k : ℕ} → First (case 10 (NoRoom t c) ∷ []) k → First (create_cases t image undo c) k
           slotted f = late (passes (λ m. last m.1) (passes (λ m. m.1 j low.within low.holds) f))
 
-          pub create_no_room : NoRoom t c → Creates t image undo c (create_refused t image undo 10)
-          create_no_room n = refuses 10 (slotted (holds n)) refl (λ e. omega arith)
+          pub create_no_room : NoRoom t c → Creates t image undo c (create_refused t image undo refusal.NoRoom)
+          create_no_room n = refuses refusal.NoRoom (slotted (holds n)) refl
 
           room_for : (h : Hold) → HoldOf t.setting t.slots c.block h → NoRoom t c → ⊥
           room_for h (HoldOf.hard w) n = n.0 w
@@ -63,9 +64,11 @@ module _ (t : Table) (image undo : List ℕ) (c : Change) where
           -- the table and the buffers are what the code made
           pub create-granted : (h : Hold) → HoldOf t.setting t.slots c.block h → (t' : Table) (image' undo' : List ℕ) → t' ≡ accepted t c j h
               → image' ≡ changed image c → undo' ≡ kept undo image c h
-              → Creates t image undo c (record { answer = create.Granted t.next h; table = t'; image = image'; undo = undo' })
+              → Creates t image undo c (record { answer = Ok (record { number = t.next; hold = h }); table = t'; image = image'; undo = undo' })
           create-granted h held t' image' undo' p q s =
-              subst₃ (λ (x : Table) (y z : List ℕ). Creates t image undo c (record { answer = create.Granted t.next h; table = x; image = y; undo = z }))
+              subst₃
+              (λ (x : Table) (y z : List ℕ). Creates t image undo c
+              (record { answer = Ok (record { number = t.next; hold = h }); table = x; image = y; undo = z }))
               (sym p) (sym q) (sym s)
               (grants (create_granted t image undo c j h) (slotted (passes (room_for h held) none_holds)) refl
               (Accepts.takes own (record { slot = j; hold = h; lowest = low; hard-or-soft = held; number = refl; says = refl; whole = refl })))

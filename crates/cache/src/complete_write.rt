@@ -4,7 +4,6 @@ ghost use Rattle.rules.specs.Joint.{CompletesWrites};
 ghost use Rattle.cache.specs.Seen.{seen, joint};
 
 use crate::types::{CompletedWritten, Table};
-use rules::{Answer, SecondAnswer, WriteAnswer};
 
 impl Table {
     // Complete block x, then write block y on the table that the completion gave.
@@ -19,35 +18,19 @@ impl Table {
         ensures { CompletesWrites (seen self) image.now undo.now handed.old x y
             (joint result image.now undo.now handed.new) }
     {
-        let c = self.complete(x);
-        let first = c.answer;
-        let next = c.table;
-        let Answer::Granted = first else {
+        let completed = self.complete(x);
+        let Ok(()) = completed.answer else {
             return CompletedWritten {
-                table: next,
-                first,
-                second: SecondAnswer::NotTried,
+                table: completed.table,
+                first: completed.answer,
+                second: None,
             };
         };
-        let w = next.write(image, undo, handed, y);
-        let answer = w.answer;
-        match answer {
-            WriteAnswer::Granted(s) => {
-                let sent = w.table;
-                CompletedWritten {
-                    table: sent,
-                    first,
-                    second: SecondAnswer::Granted(s),
-                }
-            }
-            WriteAnswer::Refused(k) => {
-                let stands = w.table;
-                CompletedWritten {
-                    table: stands,
-                    first,
-                    second: SecondAnswer::Refused(k),
-                }
-            }
+        let written = completed.table.write(image, undo, handed, y);
+        CompletedWritten {
+            table: written.table,
+            first: completed.answer,
+            second: Some(written.answer),
         }
     }
 }

@@ -7,6 +7,7 @@ mod ask;
 mod complete;
 mod complete_write;
 mod create;
+mod judge;
 mod next;
 mod open;
 pub mod types;

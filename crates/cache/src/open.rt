@@ -4,10 +4,10 @@ ghost use Rattle.rules.specs.Open.{opened};
 ghost use Rattle.cache.specs.Seen.{seen, opening};
 ghost use Rattle.std.specs.Prelude.{◌≡◌};
 
-use crate::types::{Opened, Table};
-use rules::refusals::FIRST_NUMBER;
+use crate::types::{Answered, Table};
+use rules::Setting;
+use rules::refusals::Refusal;
 use rules::sizes::{LAST_NUMBER, SLOTS};
-use rules::{Answer, Setting};
 use slots::slot::free;
 
 impl Table {
@@ -15,33 +15,26 @@ impl Table {
     fn empty(setting: Setting, n: u32) -> Table
         ensures { seen result ≡ opened setting n }
     {
-        let slot = free();
         Table {
             setting,
             first: n,
             next: n,
-            slots: [slot; SLOTS],
+            slots: [free(); SLOTS],
         }
     }
 
-    pub fn open(setting: Setting, first: u32) -> Opened
+    pub fn open(setting: Setting, first: u32) -> Answered<()>
         ensures { Opens setting first (opening result) }
     {
-        if first == 0 {
-            return Opened {
+        if first == 0 || LAST_NUMBER < first {
+            return Answered {
                 table: Table::empty(setting, 1),
-                answer: Answer::Refused(FIRST_NUMBER),
+                answer: Err(Refusal::FirstNumber),
             };
         }
-        if LAST_NUMBER < first {
-            return Opened {
-                table: Table::empty(setting, 1),
-                answer: Answer::Refused(FIRST_NUMBER),
-            };
-        }
-        Opened {
+        Answered {
             table: Table::empty(setting, first),
-            answer: Answer::Granted,
+            answer: Ok(()),
         }
     }
 }

@@ -1,46 +1,53 @@
 // Write: the largest set of the block's waiting patches that may go, goes.
 ghost use Rattle.rules.specs.Calls.{Writes};
 ghost use Rattle.cache.specs.Seen.{seen, writing};
+ghost use Rattle.cache.specs.Outcome.{answered};
 
-use crate::types::{Table, Written};
-use early::write::write_refusal;
-use rules::WriteAnswer;
-use rules::refusals::NONE_MAY_GO;
+use crate::types::{Answered, Table};
+use early::write::ready_to_write;
+use rules::refusals::Refusal;
 use send::hand_out::hand_out;
 use send::largest::largest;
 use send::sent::sent;
 use slots::patches::patches_on;
-use sound::judge::is_sound;
 
 impl Table {
-    pub fn write(self, image: &[u8], undo: &[u8], handed: &mut [u8], block: u32) -> Written
+    // The next table, and the set of slots sent.
+    fn send(
+        &self,
+        image: &[u8],
+        undo: &[u8],
+        handed: &mut [u8],
+        block: u32,
+    ) -> Result<(Table, u64), Refusal>
+        ensures { Writes (seen self.now) image.now undo.now handed.old block
+            (writing (answered self.now result) image.now undo.now handed.new) }
+    {
+        let sound = self.is_sound();
+        let on = patches_on(&self.slots, block);
+        ready_to_write(self.setting, image, undo, handed, block, sound, on)?;
+        let set = largest(&self.slots, on);
+        if set == 0 {
+            return Err(Refusal::NoneMayGo);
+        }
+        hand_out(
+            handed,
+            image,
+            undo,
+            block,
+            self.next,
+            &self.slots,
+            on.waiting,
+            set,
+        );
+        Ok((self.with_slots(sent(&self.slots, set)), set))
+    }
+
+    pub fn write(self, image: &[u8], undo: &[u8], handed: &mut [u8], block: u32) -> Answered<u64>
         ensures { Writes (seen self) image.now undo.now handed.old block
             (writing result image.now undo.now handed.new) }
     {
-        let setting = self.setting;
-        let slots = self.slots;
-        let sound = is_sound(setting, self.first, self.next, slots);
-        let on = patches_on(slots, block);
-        let refusal = write_refusal(setting, image, undo, handed, block, sound, on);
-        if refusal != 0 {
-            return Written {
-                table: self,
-                answer: WriteAnswer::Refused(refusal),
-            };
-        }
-        let set = largest(slots, on);
-        if set == 0 {
-            return Written {
-                table: self,
-                answer: WriteAnswer::Refused(NONE_MAY_GO),
-            };
-        }
-        hand_out(
-            handed, image, undo, block, self.next, slots, on.waiting, set,
-        );
-        Written {
-            table: self.with_slots(sent(slots, set)),
-            answer: WriteAnswer::Granted(set),
-        }
+        let outcome = self.send(image, undo, handed, block);
+        self.answered(outcome)
     }
 }

@@ -17,7 +17,7 @@ use Rattle.rules.specs.Slots.{is_waiting, is_in_flight}
 use Rattle.rules.specs.Table.{Table, slot_at, Old, InSlot, Committed}
 use Rattle.rules.specs.Create.{is_in}
 use Rattle.rules.specs.Ask.{ask_word, Asked}
-use Rattle.rules.specs.Calls.{Writing, Writes, write_number, Asks}
+use Rattle.rules.specs.Calls.{Writing, Writes, answer_number, Asks}
 use Rattle.rules.proofs.Granted.{write_passed}
 use Rattle.demands.specs.History.{History, Accepted, Sent}
 use Rattle.demands.specs.Demand3.{sent_in, has_landed, NotesTrue, Later}
@@ -59,7 +59,7 @@ module _ (h : History) (g : Good h) where
   abbrev ss : List Slot
   ss = h.table.slots
 
-  alone : (b : ℕ) (lent : List ℕ) (o : Writing) → Writes h.table h.image h.undo lent b o → write_number o.answer ≡ 0
+  alone : (b : ℕ) (lent : List ℕ) (o : Writing) → Writes h.table h.image h.undo lent b o → answer_number o.answer ≡ 0
       → (w : Sent) → Memᴰ w h.in_flight → w.block ≡ b → ⊥
   alone b lent o p z w m e =
       let n = g.some w (Memᴰ.append_left h.landed m) in

@@ -14,7 +14,7 @@ use Rattle.rules.specs.Create.{Change, accepted, joined}
 use Rattle.rules.specs.Passed.{CreatePassed}
 use Rattle.rules.specs.Write.{sent}
 use Rattle.rules.specs.Complete.{completed}
-use Rattle.rules.specs.Calls.{Opening, Opens, plain_number, Creation, Creates, Accepts, create_number, Writing, Writes, write_number}
+use Rattle.rules.specs.Calls.{Opening, Opens, answer_number, Creation, Creates, Accepts, Writing, Writes}
 use Rattle.rules.specs.Calls.{Completion, Completes}
 use Rattle.rules.proofs.Granted.{create_passed, write_passed}
 use Rattle.rules.proofs.SoundCalls.{open_sound}
@@ -31,11 +31,11 @@ use Rattle.demands.proofs.Complete.Leaves.{landed_good}
 -- ---- open
 
 opened_at : (g : Setting) (n : ℕ) (o : Opening) → Opens g n o → (m : ℕ) × (o.table ≡ opened g m)
-opened_at g n o p = go (ℕ_discrete (plain_number o.answer) 0)
+opened_at g n o p = go (ℕ_discrete (answer_number o.answer) 0)
   where
-    go : Dec (plain_number o.answer ≡ 0) → (m : ℕ) × (o.table ≡ opened g m)
+    go : Dec (answer_number o.answer ≡ 0) → (m : ℕ) × (o.table ≡ opened g m)
     go (yes z) = (n, ap (λ (x : Opening). x.table) (p.grant z))
-    go (no d) = (1, ap (λ (x : Opening). x.table) (p.refusal d))
+    go (no d) = (1, ap (λ (x : Opening). x.table) (p.refusal d).1)
 
 begun_good : (g : Setting) (n : ℕ) (o : Opening) (store undo : List ℕ) → Opens g n o → length store ≡ image_bytes → Good (begun o store undo)
 unfolding begun written times_sent
@@ -65,7 +65,7 @@ module _ (h : History) (g : Good h) where
   -- ---- create
   create_good : (c : Change) (o : Creation) → Creates h.table h.image h.undo c o → Good (after_create h c o)
   unfolding after_create accepted joined
-  create_good c o p = go (ℕ_discrete (create_number o.answer) 0)
+  create_good c o p = go (ℕ_discrete (answer_number o.answer) 0)
     where
       granted : CreatePassed h.table h.image h.undo c → Accepts h.table h.image h.undo c o → Good (after_create h c o)
       granted v (Accepts.takes own a) =
@@ -74,17 +74,17 @@ module _ (h : History) (g : Good h) where
       granted v (Accepts.joins does a) =
           subst (λ (x : Creation). Good (after_create h c x)) (sym a.whole) (joined_good (record { good = g; lowest = a.lowest; ready = v.ready }))
 
-      go : Dec (create_number o.answer ≡ 0) → Good (after_create h c o)
-      go (no d) = subst (λ (x : Creation). Good (after_create h c x)) (sym (p.refusal d)) g
+      go : Dec (answer_number o.answer ≡ 0) → Good (after_create h c o)
+      go (no d) = subst (λ (x : Creation). Good (after_create h c x)) (sym (p.refusal d).1) g
       go (yes z) = granted (create_passed p z) (p.grant z)
 
   -- ---- write
   write_good : (b : ℕ) (lent : List ℕ) (o : Writing) → Writes h.table h.image h.undo lent b o → Good (after_write h b o)
   unfolding after_write sent
-  write_good b lent o p = go (ℕ_discrete (write_number o.answer) 0)
+  write_good b lent o p = go (ℕ_discrete (answer_number o.answer) 0)
     where
-      go : Dec (write_number o.answer ≡ 0) → Good (after_write h b o)
-      go (no d) = subst (λ (x : Writing). Good (after_write h b x)) (sym (p.refusal d)) g
+      go : Dec (answer_number o.answer ≡ 0) → Good (after_write h b o)
+      go (no d) = subst (λ (x : Writing). Good (after_write h b x)) (sym (p.refusal d).1) g
       go (yes z) =
           let a = p.grant z in
           subst (λ (x : Writing). Good (after_write h b x)) (sym a.whole)
@@ -93,10 +93,10 @@ module _ (h : History) (g : Good h) where
   -- ---- complete
   complete_good : (b : ℕ) (o : Completion) → Completes h.table b o → Good (after_complete h b o)
   unfolding after_complete completed
-  complete_good b o p = go (ℕ_discrete (plain_number o.answer) 0)
+  complete_good b o p = go (ℕ_discrete (answer_number o.answer) 0)
     where
-      go : Dec (plain_number o.answer ≡ 0) → Good (after_complete h b o)
-      go (no d) = subst (λ (x : Completion). Good (after_complete h b x)) (sym (p.refusal d)) g
+      go : Dec (answer_number o.answer ≡ 0) → Good (after_complete h b o)
+      go (no d) = subst (λ (x : Completion). Good (after_complete h b x)) (sym (p.refusal d).1) g
       go (yes z) = subst (λ (x : Completion). Good (after_complete h b x)) (sym (p.grant z)) (landed_good g b)
 
 call_good : {h h' : History} → Good h → Call h h' → Good h'

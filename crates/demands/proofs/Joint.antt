@@ -10,7 +10,7 @@ use Rattle.rules.specs.declared.Slot.{Slot}
 use Rattle.rules.specs.Sizes.{slots}
 use Rattle.rules.specs.Table.{Table, slot_at}
 use Rattle.rules.specs.Write.{sent_slots, sent_slot, sent}
-use Rattle.rules.specs.Calls.{Writing, Writes, write_number, write_granted, sent_set, Completion}
+use Rattle.rules.specs.Calls.{Writing, Writes, answer_number, write_granted, sent_set, Completion}
 use Rattle.rules.specs.Joint.{Joint, CompletesWrites, joint_stopped, joint_went}
 use Rattle.rules.proofs.After.{sent_at}
 use Rattle.demands.specs.History.{History, numbers_below, Call, Happened, after_write, after_complete}
@@ -47,7 +47,7 @@ module _ (h : History) (x y : ℕ) (lent : List ℕ) where
   went : (c : Completion) (w : Writing) → Writes c.table h.image h.undo lent y w
       → after_joint h x y (joint_went c w) ≡ after_write (after_complete h x c) y w
   unfolding after_joint after_complete after_write
-  went c w q = by (ℕ_discrete (write_number w.answer) 0)
+  went c w q = by (ℕ_discrete (answer_number w.answer) 0)
     where
       Same : Writing → Type 0
       Same v = after_joint h x y (joint_went c v) ≡ after_write (after_complete h x c) y v
@@ -55,9 +55,9 @@ module _ (h : History) (x y : ℕ) (lent : List ℕ) where
       granted : (s : ℕ) → Same (write_granted c.table h.image h.undo y s)
       granted s = let same = numbers_left c.table s in rw same
 
-      by : Dec (write_number w.answer ≡ 0) → Same w
+      by : Dec (answer_number w.answer ≡ 0) → Same w
       by (yes z) = subst Same (sym (q.grant z).whole) (granted (sent_set w.answer))
-      by (no d) = subst Same (sym (q.refusal d)) refl
+      by (no d) = subst Same (sym (q.refusal d).1) refl
 
   pub joint_is_calls : (o : Joint) → CompletesWrites h.table h.image h.undo lent x y o → CallsMade h x y lent (after_joint h x y o)
   joint_is_calls o (CompletesWrites.stops c p n e) =

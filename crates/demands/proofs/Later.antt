@@ -5,10 +5,9 @@ use mathlib.Core.Bool.{true}
 use mathlib.Core.List.{List, ◌++◌, Memᴰ}
 use lib.Dec.{eqb}
 use Rattle.ground.proofs.Decided.{true_or_r}
-use Rattle.rules.specs.declared.Answer.{Answer}
-use Rattle.rules.specs.declared.Answer.TheVariants as plain
-use Rattle.rules.specs.declared.CreateAnswer.{CreateAnswer}
-use Rattle.rules.specs.declared.CreateAnswer.TheVariants as create
+use Rattle.std.specs.Prelude.{Result, Ok, Err}
+use Rattle.rules.specs.declared.Created.{Created}
+use Rattle.rules.specs.declared.refusals.Refusal.{Refusal}
 use Rattle.rules.specs.Create.{Change}
 use Rattle.demands.specs.History.{History, Accepted, Sent, accepted_by, after_create, after_write, those, now_landed, after_complete, Call}
 use Rattle.demands.specs.Demand3.{on_store, sent_in, has_landed, Later, ForGood}
@@ -18,13 +17,14 @@ use Rattle.demands.proofs.Notes.{sent_in_both}
 after_others : (n : ℕ) (a b : List Sent) → sent_in n b ≡ true → sent_in n (a ++ b) ≡ true
 after_others n a b e = sent_in_both n a b ∙ true_or_r (sent_in n a) e
 
-landed_still : (n b : ℕ) (out landed : List Sent) (answer : Answer) → sent_in n landed ≡ true → sent_in n (now_landed answer b out landed) ≡ true
-landed_still n b out landed plain.Granted e = after_others n (those (λ w. eqb w.block b) out) landed e
-landed_still n b out landed (plain.Refused k) e = e
+landed_still : (n b : ℕ) (out landed : List Sent) (answer : Result (Unit {0}) Refusal) → sent_in n landed ≡ true
+    → sent_in n (now_landed answer b out landed) ≡ true
+landed_still n b out landed (Ok u) e = after_others n (those (λ w. eqb w.block b) out) landed e
+landed_still n b out landed (Err r) e = e
 
-accepted_still : (a : Accepted) (c : Change) (older : List Accepted) (answer : CreateAnswer) → Memᴰ a older → Memᴰ a (accepted_by answer c older)
-accepted_still a c older (create.Granted n h) m = Memᴰ.tail m
-accepted_still a c older (create.Refused k) m = m
+accepted_still : (a : Accepted) (c : Change) (older : List Accepted) (answer : Result Created Refusal) → Memᴰ a older → Memᴰ a (accepted_by answer c older)
+accepted_still a c older (Ok x) m = Memᴰ.tail m
+accepted_still a c older (Err r) m = m
 
 -- the change is accepted, and its number has landed
 abbrev Landed : Accepted → History → Type 0

@@ -18,7 +18,7 @@ use Rattle.rules.specs.declared.Hold.TheVariants as hold
 use Rattle.rules.specs.Sizes.{room_start}
 use Rattle.rules.specs.Table.{Table}
 use Rattle.rules.specs.Create.{Change, place, changed, kept, old_bytes}
-use Rattle.rules.specs.Calls.{Creation, Creates, Accepts, create_granted, create_joined, create_number, Writing, Writes, write_number}
+use Rattle.rules.specs.Calls.{Creation, Creates, Accepts, create_granted, create_joined, answer_number, Writing, Writes}
 use Rattle.demands.specs.History.{Accepted}
 use Rattle.demands.specs.Demand3.{carried_out}
 use Rattle.demands.specs.QuestionSeven.{SameBut, CreateReaches, names, Holds}
@@ -59,7 +59,7 @@ reaches_joined t image undo c j = record {
   soft = λ r e. absurd (let z : ◌≡◌ {A = ℕ} 0 1 = cc in omega arith);
 }
 
-pub create_reaches : (t : Table) (image undo : List ℕ) (c : Change) (o : Creation) → Creates t image undo c o → create_number o.answer ≡ 0
+pub create_reaches : (t : Table) (image undo : List ℕ) (c : Change) (o : Creation) → Creates t image undo c o → answer_number o.answer ≡ 0
     → CreateReaches image undo c o
 create_reaches t image undo c o p z = go (p.grant z)
   where
@@ -68,11 +68,11 @@ create_reaches t image undo c o p z = go (p.grant z)
     go (Accepts.joins does a) = subst (CreateReaches image undo c) (sym a.whole) (reaches_joined t image undo c a.slot)
 
 pub write_reaches : (t : Table) (image undo block : List ℕ) (b : ℕ) (o : Writing) → Writes t image undo block b o → (o.image ≡ image) × (o.undo ≡ undo)
-write_reaches t image undo block b o p = go (ℕ_discrete (write_number o.answer) 0)
+write_reaches t image undo block b o p = go (ℕ_discrete (answer_number o.answer) 0)
   where
-    go : Dec (write_number o.answer ≡ 0) → (o.image ≡ image) × (o.undo ≡ undo)
+    go : Dec (answer_number o.answer ≡ 0) → (o.image ≡ image) × (o.undo ≡ undo)
     go (yes z) = let a = p.grant z in (ap (λ (x : Writing). x.image) a.whole, ap (λ (x : Writing). x.undo) a.whole)
-    go (no d) = (ap (λ (x : Writing). x.image) (p.refusal d), ap (λ (x : Writing). x.undo) (p.refusal d))
+    go (no d) = (ap (λ (x : Writing). x.image) (p.refusal d).1, ap (λ (x : Writing). x.undo) (p.refusal d).1)
 
 -- ---- why a place holds its byte
 

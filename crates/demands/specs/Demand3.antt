@@ -6,7 +6,7 @@ use Rattle.rules.specs.declared.AskAnswer.TheVariants as ask
 use Rattle.rules.specs.Sizes.{block_start}
 use Rattle.rules.specs.Table.{Old}
 use Rattle.rules.specs.Create.{is_in, changed}
-use Rattle.rules.specs.Calls.{Writing, Writes, write_number, Asks}
+use Rattle.rules.specs.Calls.{Writing, Writes, answer_number, Asks}
 use Rattle.demands.specs.History.{History, Accepted, Sent, those, Call}
 
 -- the store once writes are there, each block wholly new; the newest write is first in the list
@@ -88,7 +88,7 @@ pub record NotesTrue (h : History) : Type 0 where
   -- and it was sent once
   pub once : (n : ℕ) → times_sent n (h.in_flight ++ h.landed) ≤ 1
   -- a granted write finds nothing in flight to its block
-  pub alone : (b : ℕ) (lent : List ℕ) (o : Writing) → Writes h.table h.image h.undo lent b o → write_number o.answer ≡ 0
+  pub alone : (b : ℕ) (lent : List ℕ) (o : Writing) → Writes h.table h.image h.undo lent b o → answer_number o.answer ≡ 0
       → (w : Sent) → Memᴰ w h.in_flight → w.block ≡ b → ⊥
   -- a number that ask calls waiting was never sent
   pub waiting : (n : ℕ) → Asks h.table n ask.Waiting → sent_in n (h.in_flight ++ h.landed) ≡ false

@@ -1,17 +1,12 @@
 -- A history: an opening, and then any calls with any arguments, each on the table that the last one returned.
 -- It keeps what a witness beside the radio would write down: the changes accepted, and for each granted write its block, the bytes handed out and the
 -- numbers that it sent. What has landed is read off these notes, never off the table.
-use Rattle.std.specs.Prelude.{ℕ, zero, suc, ◌≡◌, Bool, cond, not, List, [], ◌∷◌, ◌++◌, eqb, length}
+use Rattle.std.specs.Prelude.{ℕ, zero, suc, ◌≡◌, Bool, cond, not, List, [], ◌∷◌, ◌++◌, eqb, length, Result, Ok, Err}
 use Rattle.masks.specs.Sets.{has}
 use Rattle.rules.specs.declared.Setting.{Setting}
-use Rattle.rules.specs.declared.CreateAnswer.{CreateAnswer}
-use Rattle.rules.specs.declared.CreateAnswer.TheVariants as create
-use Rattle.rules.specs.declared.WriteAnswer.{WriteAnswer}
-use Rattle.rules.specs.declared.WriteAnswer.TheVariants as write
+use Rattle.rules.specs.declared.Created.{Created}
+use Rattle.rules.specs.declared.refusals.Refusal.{Refusal}
 use Rattle.rules.specs.declared.AskAnswer.{AskAnswer}
-use Rattle.rules.specs.declared.CountAnswer.{CountAnswer}
-use Rattle.rules.specs.declared.Answer.{Answer}
-use Rattle.rules.specs.declared.Answer.TheVariants as plain
 use Rattle.rules.specs.declared.Slot.{Slot}
 use Rattle.rules.specs.Sizes.{slots, image_bytes}
 use Rattle.rules.specs.Table.{Table, slot_at}
@@ -48,9 +43,9 @@ unfoldable pub begun : Opening → List ℕ → List ℕ → History
 begun o store undo = record { table = o.table; image = store; undo = undo; opening = store; accepted = []; in_flight = []; landed = [] }
 
 -- a granted create is one more accepted change
-abbrev pub accepted_by : CreateAnswer → Change → List Accepted → List Accepted
-accepted_by (create.Granted n h) c older = record { number = n; change = c } ∷ older
-accepted_by (create.Refused k) c older = older
+abbrev pub accepted_by : Result Created Refusal → Change → List Accepted → List Accepted
+accepted_by (Ok a) c older = record { number = a.number; change = c } ∷ older
+accepted_by (Err r) c older = older
 
 unfoldable pub after_create : History → Change → Creation → History
 after_create h c o = record {
@@ -69,9 +64,9 @@ numbers_below ss s zero = []
 numbers_below ss s (suc n) = let rest = numbers_below ss s n in cond (has s n) ((slot_at ss n).number ∷ rest) rest
 
 -- a granted write is on its way
-abbrev pub sent_by : WriteAnswer → List Slot → ℕ → List ℕ → List Sent → List Sent
-sent_by (write.Granted s) ss b bytes older = record { block = b; bytes = bytes; numbers = numbers_below ss s slots } ∷ older
-sent_by (write.Refused k) ss b bytes older = older
+abbrev pub sent_by : Result ℕ Refusal → List Slot → ℕ → List ℕ → List Sent → List Sent
+sent_by (Ok s) ss b bytes older = record { block = b; bytes = bytes; numbers = numbers_below ss s slots } ∷ older
+sent_by (Err r) ss b bytes older = older
 
 unfoldable pub after_write : History → ℕ → Writing → History
 after_write h b o = record {
@@ -90,13 +85,13 @@ those test [] = []
 those test (w ∷ older) = cond (test w) (w ∷ those test older) (those test older)
 
 -- completion of a block, told once its bytes are there: its write has landed
-abbrev pub still_out : Answer → ℕ → List Sent → List Sent
-still_out plain.Granted b out = those (λ w. not (eqb w.block b)) out
-still_out (plain.Refused k) b out = out
+abbrev pub still_out : Result (Unit {0}) Refusal → ℕ → List Sent → List Sent
+still_out (Ok u) b out = those (λ w. not (eqb w.block b)) out
+still_out (Err r) b out = out
 
-abbrev pub now_landed : Answer → ℕ → List Sent → List Sent → List Sent
-now_landed plain.Granted b out landed = those (λ w. eqb w.block b) out ++ landed
-now_landed (plain.Refused k) b out landed = landed
+abbrev pub now_landed : Result (Unit {0}) Refusal → ℕ → List Sent → List Sent → List Sent
+now_landed (Ok u) b out landed = those (λ w. eqb w.block b) out ++ landed
+now_landed (Err r) b out landed = landed
 
 unfoldable pub after_complete : History → ℕ → Completion → History
 after_complete h b o = record {
@@ -115,7 +110,7 @@ pub data Call (h : History) : History → Type 0 where
   writes : (b : ℕ) (lent : List ℕ) (o : Writing) → Writes h.table h.image h.undo lent b o → Call h (after_write h b o)
   completes : (b : ℕ) (o : Completion) → Completes h.table b o → Call h (after_complete h b o)
   asks : (n : ℕ) (a : AskAnswer) → Asks h.table n a → Call h h
-  counts : (b : ℕ) (a : CountAnswer) → Counts h.table b a → Call h h
+  counts : (b : ℕ) (a : Result ℕ Refusal) → Counts h.table b a → Call h h
 
 -- a history that can be: under any setting, any first number, granted or refused, any store of 16,384 bytes, any undo area, and any calls
 pub data Happened : History → Type 0 where

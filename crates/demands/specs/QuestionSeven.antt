@@ -1,12 +1,12 @@
 -- Question seven: no change can reach bytes outside the place it names.
-use Rattle.std.specs.Prelude.{ℕ, ◌+◌, ◌-◌, ◌≤◌, ◌<◌, ◌≡◌, Bool, true, false, ◌&&◌, ◌⊎◌, leb, ltb, length, get_or}
+use Rattle.std.specs.Prelude.{ℕ, ◌+◌, ◌-◌, ◌≤◌, ◌<◌, ◌≡◌, Bool, true, false, ◌&&◌, ◌⊎◌, leb, ltb, length, get_or, Some}
 use mathlib.Core.List.{List, ◌∷◌, ◌++◌, Memᴰ}
 use Rattle.std.proofs.Math.Option.{some}
 use Rattle.rules.specs.declared.Hold.TheVariants as hold
 use Rattle.rules.specs.Sizes.{image_bytes, room_start}
 use Rattle.rules.specs.Table.{Table}
 use Rattle.rules.specs.Create.{Change, place}
-use Rattle.rules.specs.Calls.{Creation, Creates, create_number, hard_or_soft, Writing, Writes, write_number, Completion, Completes, plain_number}
+use Rattle.rules.specs.Calls.{Creation, Creates, answer_number, hard_or_soft, Writing, Writes, Completion, Completes}
 use Rattle.rules.specs.Joint.{Joint, CompletesWrites, second_number}
 use Rattle.demands.specs.History.{History, Accepted, Happened}
 use Rattle.demands.specs.Demand3.{store_after_cut, has_landed}
@@ -38,22 +38,22 @@ pub data Holds (test : Accepted → Bool) (l : List Accepted) (opening : List �
 
 pub record QuestionSeven : Type 0 where
   -- what a granted create changes of what it is lent
-  pub creates : (t : Table) (image undo : List ℕ) (c : Change) (o : Creation) → Creates t image undo c o → create_number o.answer ≡ 0
+  pub creates : (t : Table) (image undo : List ℕ) (c : Change) (o : Creation) → Creates t image undo c o → answer_number o.answer ≡ 0
       → CreateReaches image undo c o
   -- write changes nothing lent but the block handed out (complete, ask and count are lent nothing)
   pub writes : (t : Table) (image undo block : List ℕ) (b : ℕ) (o : Writing) → Writes t image undo block b o → (o.image ≡ image) × (o.undo ≡ undo)
   -- and a refusal nothing at all
-  pub create-refused : (t : Table) (image undo : List ℕ) (c : Change) (o : Creation) → Creates t image undo c o → (create_number o.answer ≡ 0 → ⊥)
+  pub create-refused : (t : Table) (image undo : List ℕ) (c : Change) (o : Creation) → Creates t image undo c o → (answer_number o.answer ≡ 0 → ⊥)
       → (o.table ≡ t) × (o.image ≡ image) × (o.undo ≡ undo)
-  pub write-refused : (t : Table) (image undo block : List ℕ) (b : ℕ) (o : Writing) → Writes t image undo block b o → (write_number o.answer ≡ 0 → ⊥)
+  pub write-refused : (t : Table) (image undo block : List ℕ) (b : ℕ) (o : Writing) → Writes t image undo block b o → (answer_number o.answer ≡ 0 → ⊥)
       → (o.table ≡ t) × (o.block ≡ block)
-  pub complete-refused : (t : Table) (b : ℕ) (o : Completion) → Completes t b o → (plain_number o.answer ≡ 0 → ⊥) → o.table ≡ t
+  pub complete-refused : (t : Table) (b : ℕ) (o : Completion) → Completes t b o → (answer_number o.answer ≡ 0 → ⊥) → o.table ≡ t
   -- nor does the joint call change anything lent but the block handed out: where completing is refused nothing at all, where only the write is, not that block
   pub joint : (t : Table) (image undo block : List ℕ) (x y : ℕ) (o : Joint) → CompletesWrites t image undo block x y o → (o.image ≡ image) × (o.undo ≡ undo)
   pub joint-refused : (t : Table) (image undo block : List ℕ) (x y : ℕ) (o : Joint) → CompletesWrites t image undo block x y o
-      → (plain_number o.first ≡ 0 → ⊥) → (o.table ≡ t) × (o.block ≡ block)
+      → (answer_number o.first ≡ 0 → ⊥) → (o.table ≡ t) × (o.block ≡ block)
   pub joint_write_refused : (t : Table) (image undo block : List ℕ) (x y : ℕ) (o : Joint) → CompletesWrites t image undo block x y o
-      → (k : ℕ) → second_number o.second ≡ some k → (k ≡ 0 → ⊥) → o.block ≡ block
+      → (k : ℕ) → second_number o.second ≡ Some k → (k ≡ 0 → ⊥) → o.block ≡ block
   -- on the store, after any history and any cut: a place that no landed change names holds its opening byte, any other the byte of the last accepted
   -- landed change that names it
   pub store : (h : History) → Happened h → (new : ℕ → Bool) (p : ℕ) → p < image_bytes

@@ -1,4 +1,4 @@
--- How each answer is shown from plain facts, which the functions' proofs cite; and that it is one.
-pub mod CreateCases
+-- What the functions' proofs cite, and that each answer is one.
 pub mod WriteCases
+pub mod Unissued
 pub mod One

@@ -1,6 +1,6 @@
 -- Between crates, need not be believed: the refusals of create and write that need no table, in the words of `rules`, where a flag says whether the
 -- table is sound. What they mean for a table is said in `cache` (proofs/Early.antt).
-use Rattle.std.specs.Prelude.{ℕ, ◌≡◌, Bool, true, List, [], ◌∷◌, ◌⊎◌}
+use Rattle.std.specs.Prelude.{ℕ, ◌≡◌, Bool, true, List, [], ◌∷◌, ◌++◌, ◌⊎◌}
 use Rattle.rules.specs.declared.Setting.{Setting}
 use Rattle.rules.specs.Sizes.{block_bytes, image_bytes}
 use Rattle.rules.specs.Settings.{undo_bytes}
@@ -13,17 +13,22 @@ use Rattle.rules.specs.Refusals.{Case, case, First, WrongSize, NoBlock, WrongLen
 abbrev pub Unissued : (next : ℕ) → List ℕ → Type 0
 Unissued next numbers = (n : ℕ) × (is_in n numbers ≡ true) × (Issued next n → ⊥)
 
+-- what a create lends, what it changes, and what it names before that
+abbrev pub lent_cases : Setting → List ℕ → List ℕ → List Case
+lent_cases g image undo = case 1 (WrongSize image_bytes image ⊎ WrongSize (undo_bytes g) undo) ∷ []
+
+abbrev pub sound_cases : Bool → List Case
+sound_cases sound = case 2 (sound ≡ true → ⊥) ∷ []
+
+abbrev pub place_cases : Change → List Case
+place_cases c = case 3 (NoBlock c.block) ∷ case 4 (WrongLength c) ∷ case 5 (PastEnd c) ∷ []
+
+abbrev pub name_cases : ℕ → Change → List Case
+name_cases next c = case 6 (ManyNamed c) ∷ case 7 (Unissued next c.named) ∷ []
+
 -- 1 to 7 of a create
 abbrev pub create_early : Setting → ℕ → Bool → List ℕ → List ℕ → Change → List Case
-create_early g next sound image undo c =
-    case 1 (WrongSize image_bytes image ⊎ WrongSize (undo_bytes g) undo)
-    ∷ case 2 (sound ≡ true → ⊥)
-    ∷ case 3 (NoBlock c.block)
-    ∷ case 4 (WrongLength c)
-    ∷ case 5 (PastEnd c)
-    ∷ case 6 (ManyNamed c)
-    ∷ case 7 (Unissued next c.named)
-    ∷ []
+create_early g next sound image undo c = lent_cases g image undo ++ sound_cases sound ++ place_cases c ++ name_cases next c
 
 -- r is the first of them that holds, or 0
 abbrev pub CreateEarly : Setting → ℕ → Bool → List ℕ → List ℕ → Change → ℕ → Type 0

@@ -8,12 +8,5 @@ use slots::number::is_issued;
 pub fn unissued(next: u32, numbers: &[u32]) -> bool
     ensures { Decides (Unissued next numbers.now) result }
 {
-    let mut k = 0;
-    while k < numbers.len() {
-        if !is_issued(next, numbers[k]) {
-            return true;
-        }
-        k += 1;
-    }
-    false
+    numbers.iter().any(|&n| !is_issued(next, n))
 }

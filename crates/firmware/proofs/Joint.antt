@@ -7,7 +7,7 @@ use borrow.Author.Tests.{ne_eqb}
 use Rattle.rules.specs.Sizes.{slots}
 use Rattle.rules.specs.Table.{Table}
 use Rattle.rules.specs.Write.{sent}
-use Rattle.rules.specs.Calls.{write_number, Writing}
+use Rattle.rules.specs.Calls.{answer_number, Writing}
 use Rattle.demands.specs.History.{numbers_below}
 use Rattle.demands.proofs.Joint.{numbers_left}
 use Rattle.layout.specs.Layout.{table_in, bytes_of}
@@ -27,9 +27,9 @@ module _ (r : Run) (has : HasRun r) (x y : ℕ) (lent : List ℕ) where
       let completed = HasRun.calls has (RunCall.completes x 0 between p) in
       let made = q.is_table (run_table completed) in
       let o = made.0 in
-      let granted : write_number o.answer ≡ 0 = sym (ap (λ (e : WriteEnd). e.refusal) made.2) ∙ z in
+      let granted : answer_number o.answer ≡ 0 = sym (ap (λ (e : WriteEnd). e.refusal) made.2) ∙ z in
       let back = write_kept between (run_bytes completed) r.image r.undo lent y o made.1 granted in
-      let stored : table_after (write_number o.answer) between o.table ≡ bytes_of o.table = rw granted in
+      let stored : table_after (answer_number o.answer) between o.table ≡ bytes_of o.table = rw granted in
       let left : table_in w.table ≡ sent (table_in between) w.set =
       ap (λ (e : WriteEnd). table_in e.table) made.2 ∙ ap table_in stored ∙ back.0 ∙ ap (λ (v : Writing). v.table) (made.1.grant granted).whole
       ∙ ap (sent (table_in between)) (sym (ap (λ (e : WriteEnd). e.set) made.2)) in

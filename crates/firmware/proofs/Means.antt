@@ -14,9 +14,12 @@ use Rattle.rules.specs.declared.AskAnswer.TheVariants as ask
 use Rattle.rules.specs.Table.{Table}
 use Rattle.rules.specs.Create.{Change}
 use Rattle.rules.specs.Ask.{ask_word}
-use Rattle.rules.specs.Calls.{Opening, Creation, Creates, Accepts, create_number, create_refused, create_granted, create_joined, sent_set}
-use Rattle.rules.specs.Calls.{Writing, Writes, write_number, write_refused, write_granted}
-use Rattle.rules.specs.Calls.{Completion, Completes, plain_number, complete_refused, complete_granted, ask_number, Asks}
+use Rattle.rules.specs.declared.refusals.Refusal.{Refusal}
+use Rattle.rules.specs.Refusals.{number_of}
+use Rattle.rules.proofs.Refused.{refusal_not0}
+use Rattle.rules.specs.Calls.{Opening, Creation, Creates, Accepts, answer_number, create_refused, create_granted, create_joined, sent_set}
+use Rattle.rules.specs.Calls.{Writing, Writes, write_refused, write_granted}
+use Rattle.rules.specs.Calls.{Completion, Completes, complete_refused, complete_granted, ask_number, Asks}
 use Rattle.rules.proofs.OneAnswer.{ask_one}
 use Rattle.demands.specs.History as history
 use Rattle.demands.specs.History.{History}
@@ -43,14 +46,13 @@ module _ (r : Run) where
   abbrev t : Table
   t = table_in r.bytes
 
-  create_means : (c : Change) (o : Creation) → Creates t r.image r.undo c o → (create_number o.answer ≡ 0 → table_in (bytes_of o.table) ≡ o.table)
+  create_means : (c : Change) (o : Creation) → Creates t r.image r.undo c o → (answer_number o.answer ≡ 0 → table_in (bytes_of o.table) ≡ o.table)
       → meant (run_create r c (create_end r.bytes o)) ≡ history.after_create (meant r) c o
   unfolding history.after_create
-  create_means c o p kept = by (ℕ_discrete (create_number o.answer) 0)
+  create_means c o p kept = by (ℕ_discrete (answer_number o.answer) 0)
     where
-      refused : (k : ℕ) → (k ≡ 0 → ⊥)
-          → let x = create_refused t r.image r.undo k in meant (run_create r c (create_end r.bytes x)) ≡ history.after_create (meant r) c x
-      refused k d = rw (ne_eqb k 0 d)
+      refused : (q : Refusal) → let x = create_refused t r.image r.undo q in meant (run_create r c (create_end r.bytes x)) ≡ history.after_create (meant r) c x
+      refused q = rw (ne_eqb (number_of q) 0 (refusal_not0 q))
 
       Same : Creation → Type 0
       Same x = table_in (bytes_of x.table) ≡ x.table → meant (run_create r c (create_end r.bytes x)) ≡ history.after_create (meant r) c x
@@ -63,45 +65,44 @@ module _ (r : Run) where
       granted (Accepts.joins does a) =
           subst Same (sym a.whole) (λ e. ap (with_table (history.after_create (meant r) c (create_joined t r.image r.undo c a.slot))) e)
 
-      by : Dec (create_number o.answer ≡ 0) → meant (run_create r c (create_end r.bytes o)) ≡ history.after_create (meant r) c o
+      by : Dec (answer_number o.answer ≡ 0) → meant (run_create r c (create_end r.bytes o)) ≡ history.after_create (meant r) c o
       by (yes z) = granted (p.grant z) (kept z)
       by (no d) =
-          subst (λ (x : Creation). meant (run_create r c (create_end r.bytes x)) ≡ history.after_create (meant r) c x) (sym (p.refusal d)) (refused _ d)
+          subst (λ (x : Creation). meant (run_create r c (create_end r.bytes x)) ≡ history.after_create (meant r) c x) (sym (p.refusal d).1) (refused _)
 
   write_means : (b : ℕ) (lent : List ℕ) (o : Writing) → Writes t r.image r.undo lent b o
-      → (write_number o.answer ≡ 0 → table_in (bytes_of o.table) ≡ o.table)
+      → (answer_number o.answer ≡ 0 → table_in (bytes_of o.table) ≡ o.table)
       → meant (run_write r b (write_end r.bytes o)) ≡ history.after_write (meant r) b o
   unfolding history.after_write
-  write_means b lent o p kept = by (ℕ_discrete (write_number o.answer) 0)
+  write_means b lent o p kept = by (ℕ_discrete (answer_number o.answer) 0)
     where
-      refused : (k : ℕ) → (k ≡ 0 → ⊥)
-          → let x = write_refused t r.image r.undo lent k in meant (run_write r b (write_end r.bytes x)) ≡ history.after_write (meant r) b x
-      refused k d = rw (ne_eqb k 0 d)
+      refused : (q : Refusal) → let x = write_refused t r.image r.undo lent q in meant (run_write r b (write_end r.bytes x)) ≡ history.after_write (meant r) b x
+      refused q = rw (ne_eqb (number_of q) 0 (refusal_not0 q))
 
-      by : Dec (write_number o.answer ≡ 0) → meant (run_write r b (write_end r.bytes o)) ≡ history.after_write (meant r) b o
+      by : Dec (answer_number o.answer ≡ 0) → meant (run_write r b (write_end r.bytes o)) ≡ history.after_write (meant r) b o
       by (yes z) =
           subst (λ (x : Writing). table_in (bytes_of x.table) ≡ x.table → meant (run_write r b (write_end r.bytes x)) ≡ history.after_write (meant r) b x)
           (sym (p.grant z).whole) (λ e. ap (with_table (history.after_write (meant r) b (write_granted t r.image r.undo b (sent_set o.answer)))) e)
           (kept z)
       by (no d) =
-          subst (λ (x : Writing). meant (run_write r b (write_end r.bytes x)) ≡ history.after_write (meant r) b x) (sym (p.refusal d)) (refused _ d)
+          subst (λ (x : Writing). meant (run_write r b (write_end r.bytes x)) ≡ history.after_write (meant r) b x) (sym (p.refusal d).1) (refused _)
 
-  complete_means : (b : ℕ) (o : Completion) → Completes t b o → (plain_number o.answer ≡ 0 → table_in (bytes_of o.table) ≡ o.table)
-      → meant (run_complete r b (plain_number o.answer) (table_after (plain_number o.answer) r.bytes o.table)) ≡ history.after_complete (meant r) b o
+  complete_means : (b : ℕ) (o : Completion) → Completes t b o → (answer_number o.answer ≡ 0 → table_in (bytes_of o.table) ≡ o.table)
+      → meant (run_complete r b (answer_number o.answer) (table_after (answer_number o.answer) r.bytes o.table)) ≡ history.after_complete (meant r) b o
   unfolding history.after_complete
-  complete_means b o p kept = by (ℕ_discrete (plain_number o.answer) 0)
+  complete_means b o p kept = by (ℕ_discrete (answer_number o.answer) 0)
     where
       after : Completion → Run
-      after x = run_complete r b (plain_number x.answer) (table_after (plain_number x.answer) r.bytes x.table)
+      after x = run_complete r b (answer_number x.answer) (table_after (answer_number x.answer) r.bytes x.table)
 
-      refused : (k : ℕ) → (k ≡ 0 → ⊥) → meant (after (complete_refused t k)) ≡ history.after_complete (meant r) b (complete_refused t k)
-      refused k d = rw (ne_eqb k 0 d)
+      refused : (q : Refusal) → meant (after (complete_refused t q)) ≡ history.after_complete (meant r) b (complete_refused t q)
+      refused q = rw (ne_eqb (number_of q) 0 (refusal_not0 q))
 
-      by : Dec (plain_number o.answer ≡ 0) → meant (after o) ≡ history.after_complete (meant r) b o
+      by : Dec (answer_number o.answer ≡ 0) → meant (after o) ≡ history.after_complete (meant r) b o
       by (yes z) =
           subst (λ (x : Completion). table_in (bytes_of x.table) ≡ x.table → meant (after x) ≡ history.after_complete (meant r) b x)
           (sym (p.grant z)) (λ e. ap (with_table (history.after_complete (meant r) b (complete_granted t b))) e) (kept z)
-      by (no d) = subst (λ (x : Completion). meant (after x) ≡ history.after_complete (meant r) b x) (sym (p.refusal d)) (refused _ d)
+      by (no d) = subst (λ (x : Completion). meant (after x) ≡ history.after_complete (meant r) b x) (sym (p.refusal d).1) (refused _)
 
 begun_means : (o : Opening) (store undo : List ℕ) → table_in (bytes_of o.table) ≡ o.table
     → meant (run_begun (bytes_of o.table) store undo) ≡ history.begun o store undo
@@ -140,8 +141,8 @@ step {r} g (RunCall.creates c e p) =
     let kept = create_kept r.bytes g.in_bytes r.image r.undo c o q.1 in
     subst (λ (x : CreateEnd). Step r (run_create r c x)) (sym q.2) (record {
       after = record {
-        is_table = after_table (create_number o.answer) r.bytes o.table g.is_table (λ z. (kept z).1);
-        in_bytes = after_bytes (create_number o.answer) r.bytes o.table g.in_bytes;
+        is_table = after_table (answer_number o.answer) r.bytes o.table g.is_table (λ z. (kept z).1);
+        in_bytes = after_bytes (answer_number o.answer) r.bytes o.table g.in_bytes;
       };
       call = subst (history.Call (meant r)) (sym (create_means r c o q.1 (λ z. (kept z).0))) (history.Call.creates c o q.1);
     })
@@ -151,8 +152,8 @@ step {r} g (RunCall.writes b lent e p) =
     let kept = write_kept r.bytes g.in_bytes r.image r.undo lent b o q.1 in
     subst (λ (x : WriteEnd). Step r (run_write r b x)) (sym q.2) (record {
       after = record {
-        is_table = after_table (write_number o.answer) r.bytes o.table g.is_table (λ z. (kept z).1);
-        in_bytes = after_bytes (write_number o.answer) r.bytes o.table g.in_bytes;
+        is_table = after_table (answer_number o.answer) r.bytes o.table g.is_table (λ z. (kept z).1);
+        in_bytes = after_bytes (answer_number o.answer) r.bytes o.table g.in_bytes;
       };
       call = subst (history.Call (meant r)) (sym (write_means r b lent o q.1 (λ z. (kept z).0))) (history.Call.writes b lent o q.1);
     })
@@ -162,8 +163,8 @@ step {r} g (RunCall.completes b k after p) =
     let kept = complete_kept r.bytes g.in_bytes b o q.1 in
     subst₂ (λ (x : ℕ) (y : List ℕ). Step r (run_complete r b x y)) (sym q.2) (sym q.3) (record {
       after = record {
-        is_table = after_table (plain_number o.answer) r.bytes o.table g.is_table (λ z. (kept z).1);
-        in_bytes = after_bytes (plain_number o.answer) r.bytes o.table g.in_bytes;
+        is_table = after_table (answer_number o.answer) r.bytes o.table g.is_table (λ z. (kept z).1);
+        in_bytes = after_bytes (answer_number o.answer) r.bytes o.table g.in_bytes;
       };
       call = subst (history.Call (meant r)) (sym (complete_means r b o q.1 (λ z. (kept z).0))) (history.Call.completes b o q.1);
     })
@@ -197,7 +198,7 @@ committed_only : (a : AskAnswer) → 3 ≡ ask_word a → a ≡ ask.Committed
 committed_only ask.Waiting e = absurd (omega arith)
 committed_only ask.InFlight e = absurd (omega arith)
 committed_only ask.Committed e = refl
-committed_only (ask.Refused k) e = absurd (omega arith)
+committed_only (ask.Refused r) e = absurd (omega arith)
 
 pub called_committed : {r : Run} {n k : ℕ} → HasRun r → AskCall r.bytes n k 3 → Asks (table_in r.bytes) n ask.Committed
 called_committed {r} {n} w p = let q = p.is_table (means w).0.is_table in subst (Asks (table_in r.bytes) n) (committed_only q.0 q.3) q.1

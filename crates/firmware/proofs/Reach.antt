@@ -9,7 +9,7 @@ use Rattle.rules.specs.declared.Hold.TheVariants as hold
 use Rattle.rules.specs.Table.{Table}
 use Rattle.rules.specs.Create.{Change}
 use Rattle.rules.specs.Refusals.{First}
-use Rattle.rules.specs.Calls.{create_number, hard_or_soft, write_number, plain_number, Writing}
+use Rattle.rules.specs.Calls.{answer_number, hard_or_soft, Writing}
 use Rattle.rules.specs.Joint.{Joint, CompletesWrites}
 use Rattle.rules.proofs.Cases.{passed}
 use Rattle.demands.proofs.QuestionSeven.{question_seven}
@@ -17,7 +17,7 @@ use Rattle.layout.specs.Layout.{table_in, IsTable}
 use Rattle.board.specs.Calls.{no_table_cases, hold_number, CreateEnd, CreateCall, WriteEnd, WriteCall, CompleteCall}
 use Rattle.board.specs.Calls.{second_as, JointEnd, JointCall}
 use Rattle.board.proofs.OneAnswer.{table_or_not}
-use Rattle.board.proofs.Joint.{tried_as, unwritten}
+use Rattle.board.proofs.Joint.{unwritten}
 use Rattle.firmware.specs.Answers.{CreateEndReaches}
 
 -- ---- bytes that are no table
@@ -66,7 +66,7 @@ module _ (table image undo : List ℕ) (c : Change) (e : CreateEnd) (p : CreateC
       by (yes t) =
           let q = p.is_table t in
           let o = q.0 in
-          let n : create_number o.answer ≡ 0 → ⊥ = λ z. d (ap (λ (x : CreateEnd). x.refusal) q.2 ∙ z) in
+          let n : answer_number o.answer ≡ 0 → ⊥ = λ z. d (ap (λ (x : CreateEnd). x.refusal) q.2 ∙ z) in
           let same = question_seven.create-refused (table_in table) image undo c o q.1 n in
           subst (λ (x : CreateEnd). (x.table ≡ table) × (x.image ≡ image) × (x.undo ≡ undo)) (sym q.2) (unwritten _ table o.table n, same.1, same.2)
       by (no n) =
@@ -91,7 +91,7 @@ module _ (table image undo handed : List ℕ) (b : ℕ) (e : WriteEnd) (p : Writ
       by (yes t) =
           let q = p.is_table t in
           let o = q.0 in
-          let n : write_number o.answer ≡ 0 → ⊥ = λ z. d (ap (λ (x : WriteEnd). x.refusal) q.2 ∙ z) in
+          let n : answer_number o.answer ≡ 0 → ⊥ = λ z. d (ap (λ (x : WriteEnd). x.refusal) q.2 ∙ z) in
           subst (λ (x : WriteEnd). (x.table ≡ table) × (x.handed ≡ handed)) (sym q.2)
           (unwritten _ table o.table n, (question_seven.write-refused (table_in table) image undo handed b o q.1 n).1)
       by (no n) = let same = (p.no_table n).1 in (ap (λ (x : WriteEnd). x.table) same, ap (λ (x : WriteEnd). x.handed) same)
@@ -109,7 +109,7 @@ handed_kept : {t : Table} {image undo handed : List ℕ} {x y : ℕ} {o : Joint}
 handed_kept (CompletesWrites.stops c p n e) d = ap (λ (u : Joint). u.block) e
 handed_kept (CompletesWrites.goes_on c p z w q e) d =
     ap (λ (u : Joint). u.block) e
-    ∙ ap (λ (v : Writing). v.block) (q.refusal (λ g. d (ap (λ (u : Joint). second_as u.second) e ∙ tried_as w.answer ∙ g)))
+    ∙ ap (λ (v : Writing). v.block) (q.refusal (λ g. d (ap (λ (u : Joint). second_as u.second) e ∙ g))).1
 
 module _ (table image undo handed : List ℕ) (x y : ℕ) (e : JointEnd) (p : JointCall table image undo handed x y e) where
   pub joint_reaches : (e.image ≡ image) × (e.undo ≡ undo)
@@ -129,7 +129,7 @@ module _ (table image undo handed : List ℕ) (x y : ℕ) (e : JointEnd) (p : Jo
       by (yes t) =
           let q = p.is_table t in
           let o = q.0 in
-          let n : plain_number o.first ≡ 0 → ⊥ = λ z. d (ap (λ (u : JointEnd). u.first) q.2 ∙ z) in
+          let n : answer_number o.first ≡ 0 → ⊥ = λ z. d (ap (λ (u : JointEnd). u.first) q.2 ∙ z) in
           subst (λ (u : JointEnd). (u.table ≡ table) × (u.handed ≡ handed)) (sym q.2)
           (unwritten _ table o.table n, (question_seven.joint-refused (table_in table) image undo handed x y o q.1 n).1)
       by (no n) = let same = p.no_table n in (ap (λ (u : JointEnd). u.table) same, ap (λ (u : JointEnd). u.handed) same)

@@ -1,30 +1,16 @@
--- Numbers and slots laid over bytes one after the other, and how many bytes slots take. Assumes nothing.
+-- Slots in bytes one after the other, and how many bytes they take. Assumes nothing.
 use Prim.Native.Nat.{ℕ, ◌+◌, ◌*◌, ◌<◌}
 use mathlib.Core.Path.{◌≡◌, refl, sym, ap, ◌∙◌}
 use mathlib.Core.List.{List, [], ◌∷◌, ◌++◌, append_assoc, append-nil}
 use native.Mathlib.Numerals.{add-one}
 use native.Mathlib.Omega.{arith}
-use lib.ListN.{length, set, take, length-append}
+use lib.ListN.{length, take, length-append}
 use lib.Seq.{take-suc}
-use Rattle.spans.specs.Spans.{splice}
-use Rattle.spans.proofs.Laws.{Over, laid, set_one}
 use Rattle.rules.specs.declared.Slot.{Slot}
 use Rattle.rules.specs.Slots.{free_slot}
 use Rattle.rules.specs.Sizes.{slots}
 use Rattle.rules.specs.Table.{Table, slot_at}
 use Rattle.layout.specs.Layout.{table_bytes, in_bytes, slot_bytes, slots_bytes, bytes_of}
-
--- four bytes stored one after the other are the four laid as one list
-pub set_four : (xs : List ℕ) (at a b c d : ℕ) → set (set (set (set xs at a) (at + 1) b) (at + 2) c) (at + 3) d ≡ splice xs at (a ∷ b ∷ c ∷ d ∷ [])
-set_four xs at a b c d =
-    let one : Over xs at (a ∷ []) (set xs at a) = record { is = set_one xs at a } in
-    let two = laid 1 (b ∷ []) one (set_one _ (at + 1) b) refl in
-    let three = laid 2 (c ∷ []) two (set_one _ (at + 2) c) refl in
-    (laid 3 (d ∷ []) three (set_one _ (at + 3) d) refl).is
-
-pub length_four : (x : ℕ) → 4 ≡ length (in_bytes 4 x)
-unfolding in_bytes
-length_four x = refl
 
 pub length_slot : (s : Slot) → length (slot_bytes s) ≡ 32
 unfolding in_bytes slot_bytes

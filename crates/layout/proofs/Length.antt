@@ -8,7 +8,7 @@ use lib.ListN.{length}
 use Rattle.rules.specs.declared.Setting.TheVariants.{Board}
 use Rattle.rules.specs.Table.{Table}
 use Rattle.rules.specs.Open.{opened}
-use Rattle.rules.specs.Calls.{Opening, Opens, plain_number}
+use Rattle.rules.specs.Calls.{Opening, Opens, answer_number}
 use Rattle.layout.specs.Layout.{table_bytes, table_in, bytes_of, table_read, table_stored}
 
 pub read_whole : (bytes : List ℕ) → length bytes ≡ table_bytes → table_read bytes ≡ table_in bytes
@@ -29,7 +29,7 @@ stored_other bytes t d = rw (ne_eqb (length bytes) table_bytes d)
 
 -- opened at 1, granted or not, the table is the empty one with first 1
 pub opens_one : (o : Opening) → Opens Board 1 o → o.table ≡ opened Board 1
-opens_one o p = elim (ℕ_discrete (plain_number o.answer) 0) [
+opens_one o p = elim (ℕ_discrete (answer_number o.answer) 0) [
   | yes z ↦ ap (λ (x : Opening). x.table) (p.grant z)
-  | no d ↦ ap (λ (x : Opening). x.table) (p.refusal d)
+  | no d ↦ ap (λ (x : Opening). x.table) (p.refusal d).1
 ]

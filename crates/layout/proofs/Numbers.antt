@@ -1,34 +1,38 @@
--- Numbers in bytes: a number of 4 and of 8 bytes from its parts, and the 8 bytes of a number as twice 4. Assumes nothing.
-use Prim.Native.Nat.{ℕ, ◌+◌, ◌*◌, ◌/◌, ◌%◌}
-use mathlib.Core.Path.{◌≡◌}
-use mathlib.Core.List.{List, ◌++◌}
-use native.Mathlib.Nat.{add-zero, add_assoc}
-use native.Mathlib.Omega.{arith}
-use lib.ListN.{get_or}
+-- Numbers in bytes, low byte first, as the library reads and writes them. Assumes nothing.
+use Rattle.std.proofs.Common.{ℕ, ◌+◌, ◌<◌, ◌≡◌, sym, ap, ◌∙◌, List, w32, w64, arith, get_or, slice_index}
+use Rattle.std.proofs.lemmas.Nat.{shr-shr}
+use Rattle.std.specs.Int.{to_le_bytes, from_le_bytes}
+use Rattle.spans.specs.Spans.{splice, part}
+use Rattle.spans.proofs.Laws.{part_in}
 use Rattle.layout.specs.Layout.{number_at, in_bytes}
 
 module _ (bytes : List ℕ) (at : ℕ) where
-  pub number_4 :
-      number_at bytes at 4 ≡ ((get_or bytes at 0 + get_or bytes (at + 1) 0 * 256) + get_or bytes (at + 2) 0 * 65536) + get_or bytes (at + 3) 0 * 16777216
+  byte : (n i : ℕ) → i < n → slice_index (part bytes at n) i ≡ get_or bytes (at + i) 0
+  byte n i l = part_in bytes at n i l
+
+  number_4 : number_at bytes at 4 ≡ from_le_bytes w32 (part bytes at 4)
   unfolding number_at
-  number_4 = rw (add-zero at) (omega arith)
+  number_4 = omega (arith, byte 4 0, byte 4 1, byte 4 2, byte 4 3)
 
-  pub number_8 : number_at bytes at 8 ≡ number_at bytes at 4 + number_at bytes (at + 4) 4 * 4294967296
+  number_8 : number_at bytes at 8 ≡ from_le_bytes w64 (part bytes at 8)
   unfolding number_at
-  number_8 = simp add_assoc (omega arith)
+  number_8 = omega (arith, byte 8 0, byte 8 1, byte 8 2, byte 8 3, byte 8 4, byte 8 5, byte 8 6, byte 8 7)
 
--- a digit from below: what stands above it adds nothing
-low_digit : (x l k : ℕ) → x ≡ l + 256 * k → (x / 256 ≡ l / 256 + k) × (l % 256 ≡ x % 256)
-low_digit x l k e = (omega arith, omega arith)
+  -- what the library makes of the bytes that stand there
+  pub read_4 : {array : List ℕ} {x : ℕ} → x ≡ from_le_bytes w32 array → array ≡ part bytes at 4 → x ≡ number_at bytes at 4
+  read_4 e f = e ∙ ap (from_le_bytes w32) f ∙ sym number_4
 
-pub bytes_8 : (x : ℕ) → in_bytes 4 (x % 4294967296) ++ in_bytes 4 (x / 4294967296) ≡ in_bytes 8 x
+  pub read_8 : {array : List ℕ} {x : ℕ} → x ≡ from_le_bytes w64 array → array ≡ part bytes at 8 → x ≡ number_at bytes at 8
+  read_8 e f = e ∙ ap (from_le_bytes w64) f ∙ sym number_8
+
+pub low_4 : (x : ℕ) → to_le_bytes w32 x ≡ in_bytes 4 x
 unfolding in_bytes
-bytes_8 x =
-    let l = x % 4294967296 in
-    let h = x / 4294967296 in
-    let s0 = low_digit x l (16777216 * h) (omega arith) in
-    let s1 = low_digit (x / 256) (l / 256) (65536 * h) (omega (arith, s0.0)) in
-    let s2 = low_digit (x / 256 / 256) (l / 256 / 256) (256 * h) (omega (arith, s1.0)) in
-    let s3 = low_digit (x / 256 / 256 / 256) (l / 256 / 256 / 256) h (omega (arith, s2.0)) in
-    let top : h ≡ x / 256 / 256 / 256 / 256 = omega arith in
-    rw (s0.1, s1.1, s2.1, s3.1, top)
+low_4 x = rw (shr-shr x 8 8, shr-shr x 16 8)
+
+pub low_8 : (x : ℕ) → to_le_bytes w64 x ≡ in_bytes 8 x
+unfolding in_bytes
+low_8 x = rw (shr-shr x 8 8, shr-shr x 16 8, shr-shr x 24 8, shr-shr x 32 8, shr-shr x 40 8, shr-shr x 48 8)
+
+-- what is laid, by another name
+pub laid_as : (was : List ℕ) (at : ℕ) {now ys zs : List ℕ} → now ≡ splice was at ys → ys ≡ zs → now ≡ splice was at zs
+laid_as was at e f = e ∙ ap (λ l. splice was at l) f

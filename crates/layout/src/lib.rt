@@ -2,6 +2,7 @@
 // them. specs/Layout.antt says what stands where.
 #![tactic(auto)]
 
+mod bytes;
 pub mod from_bytes;
 pub mod sizes;
 pub mod to_bytes;

@@ -1,9 +1,9 @@
 -- The digits of a number: one equation for a number below 10 and one for the rest, and how many there are. Assumes nothing.
-use Prim.Native.Nat.{ℕ, zero, suc, ◌+◌, ◌/◌, ◌%◌, ◌^◌, ◌≤◌, ◌<◌}
+use Prim.Native.Nat.{ℕ, zero, suc, ◌+◌, ◌*◌, ◌/◌, ◌%◌, ◌^◌, ◌≤◌, ◌<◌}
 use mathlib.Core.Path.{◌≡◌, refl, ap}
 use mathlib.Core.Bool.{Bool, true, false}
 use mathlib.Core.List.{List, [], ◌∷◌, ◌++◌}
-use native.Mathlib.Nat.{pow-succ'}
+use Rattle.std.proofs.Math.Nat.{pow-succ', pow-suc, one-le-pow}
 use native.Mathlib.Omega.{arith}
 use borrow.Author.Tests.{lt-ltb, le-ltb, ltb-true, ltb-false}
 use lib.Dec.{ltb}
@@ -68,6 +68,17 @@ at_most (suc k) n l = go (ltb n 10) refl (λ h. at_most k (n / 10) (omega (arith
     go : (b : Bool) → ltb n 10 ≡ b → (10 ≤ n → length (decimal (n / 10)) ≤ suc k) → length (decimal n) ≤ suc (suc k)
     go true e q = omega (arith, length_one n (ltb-true n 10 e))
     go false e q = let h = ltb-false n 10 e in omega (arith, length_more n h, q h)
+
+-- and one from that power on has more
+at_least : (k n : ℕ) → 10 ^ k ≤ n → suc k ≤ length (decimal n)
+at_least zero n l = at_least_one n
+at_least (suc k) n l =
+    let p : 10 ^ suc k ≡ 10 ^ k * 10 = pow-suc 10 k in
+    let q : 1 ≤ 10 ^ k = one-le-pow k 10 (omega arith) in
+    omega (arith, length_more n (omega arith), at_least k (n / 10) (omega arith))
+
+pub by_power : (k n : ℕ) → 10 ^ k ≤ n → n < 10 * 10 ^ k → length (decimal n) ≡ k + 1
+by_power k n l h = omega (arith, at_least k n l, at_most k n (omega (arith, pow-succ' 10 k)))
 
 pub at_most_20 : (n : ℕ) → n < 2 ^ 64 → length (decimal n) ≤ 20
 at_most_20 n l = at_most 19 n (omega arith)

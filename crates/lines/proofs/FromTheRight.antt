@@ -45,11 +45,15 @@ set_before (x ∷ xs) zero [] d = ap (λ (r : List ℕ). d ∷ r) (sym (splice_n
 set_before (x ∷ xs) zero (y ∷ ys) d =
     rw (zero-add (suc (length ys))) (ap (λ (r : List ℕ). y ∷ r) (rw (zero-add (length ys)) at (set_before xs zero ys d)))
 
--- with its last digit stored, one digit less is to be laid
-pub one_stored : (xs : List ℕ) (at i n : ℕ) → 0 < i
-    → splice (set xs (at + (i - 1)) (digit (n % 10))) at (last_digits (i - 1) (n / 10)) ≡ splice xs at (last_digits i n)
+one_more : (xs : List ℕ) (at k n : ℕ)
+    → splice (set xs (at + k) (digit (n % 10))) at (last_digits k (n / 10)) ≡ splice xs at (last_digits (suc k) n)
 unfolding last_digits
-one_stored xs at zero n l = absurd (omega arith)
-one_stored xs at (suc i) n l =
-    let e : suc i - 1 ≡ i = omega arith in
-    rw e (rw (length_last i (n / 10)) at (set_before xs at (last_digits i (n / 10)) (digit (n % 10))))
+one_more xs at k n = rw (length_last k (n / 10)) at (set_before xs at (last_digits k (n / 10)) (digit (n % 10)))
+
+-- with its last digit stored, right before place i, one digit less is to be laid
+pub one_stored : (xs : List ℕ) (at i n : ℕ) → at < i
+    → splice (set xs (i - 1) (digit (n % 10))) at (last_digits (i - 1 - at) (n / 10)) ≡ splice xs at (last_digits (i - at) n)
+one_stored xs at i n l =
+    let k : i - at ≡ suc (i - 1 - at) = omega arith in
+    let place : at + (i - 1 - at) ≡ i - 1 = omega arith in
+    let stored = one_more xs at (i - 1 - at) n in cc

@@ -1,33 +1,31 @@
 // A number in decimal digits, written from the last to the first: how many there are is counted first.
+// By hand: of a `write!` std promises the bytes only where it says Ok, and `spell` cannot fail.
 ghost use Rattle.std.specs.Prelude.{◌+◌, ◌≤◌, ◌≡◌, length};
 ghost use Rattle.lines.specs.Decimal.{decimal};
-ghost use Rattle.lines.specs.Laid.{Laid};
+ghost use Rattle.lines.specs.Laid.{Adds};
 
+use crate::text::Text;
+
+#[tactic(auto, using(crate::proofs::Digits::length_one, crate::proofs::Digits::by_power))]
 fn digits(n: u64) -> usize
     ensures { result ≡ length (decimal n) }
 {
-    let mut k = 1;
-    let mut rest = n;
-    while rest >= 10 {
-        rest /= 10;
-        k += 1;
-    }
-    k
+    n.checked_ilog10().map_or(1, |k| k as usize + 1)
 }
 
-// The digits of n from place `at` on, and the place after them.
-pub(crate) fn put(out: &mut [u8], at: usize, n: u64) -> usize
-    requires { at + length (decimal n) ≤ length out.old }
-    ensures laid { Laid out.old at (decimal n) out.new result }
-    ensures upper_bound { result ≤ at + 20 }
-{
-    let k = digits(n);
-    let mut i = k;
-    let mut rest = n;
-    while i > 0 {
-        i -= 1;
-        out[at + i] = 48 + (rest % 10) as u8;
-        rest /= 10;
+impl Text<'_> {
+    #[tactic(auto, using(crate::proofs::Digits::at_most_20))]
+    pub(crate) fn put_number(&mut self, n: u64)
+        requires { self.old.len + length (decimal n) ≤ length self.old.buffer.now }
+        ensures adds { Adds (decimal n) self.old self.new }
+        ensures upper_bound { self.new.len ≤ self.old.len + 20 }
+    {
+        let end = self.len + digits(n);
+        let mut rest = n;
+        for i in (self.len..end).rev() {
+            self.buffer[i] = b'0' + (rest % 10) as u8;
+            rest /= 10;
+        }
+        self.len = end;
     }
-    at + k
 }

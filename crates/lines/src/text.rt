@@ -1,73 +1,81 @@
-// Words, each laid right after what stands before it. Each function promises how far it goes at most, so
-// that its caller knows that the next part finds room.
-ghost use Rattle.std.specs.Prelude.{◌+◌, ◌≤◌, length, ◌++◌};
+// The text of a line, as far as it is spelled. Each method promises how far it goes at most, so that its
+// caller knows that the next part finds room.
+ghost use Rattle.std.specs.Prelude.{◌+◌, ◌≤◌, ◌≡◌, length, ◌++◌};
 ghost use Rattle.lines.specs.Decimal.{decimal};
 ghost use Rattle.lines.specs.Line.{space, word_text, hold_text, more_text};
-ghost use Rattle.lines.specs.Laid.{Laid};
+ghost use Rattle.lines.specs.Laid.{Adds};
 
-use crate::number;
 use crate::types::{More, Word};
 use rules::Hold;
 
-// The text from place `at` on, and the place after it.
-pub(crate) fn put(out: &mut [u8], at: usize, text: &[u8]) -> usize
-    requires { at + length text.now ≤ length out.old }
-    ensures { Laid out.old at text.now out.new result }
-{
-    spans::copy(out, at, text, 0, text.len());
-    at + text.len()
+// A lent buffer, and how many bytes at its start are text.
+#[derive(Drop)]
+pub(crate) struct Text<'a> {
+    pub(crate) buffer: &'a mut [u8],
+    pub(crate) len: usize,
+}
+
+impl Text<'_> {
+    pub(crate) fn put(&mut self, more: &[u8])
+        requires { self.old.len + length more.now ≤ length self.old.buffer.now }
+        ensures { Adds more.now self.old self.new }
+    {
+        spans::copy(self.buffer, self.len, more, 0, more.len());
+        self.len += more.len();
+    }
+
+    // A number after a space.
+    #[tactic(auto, using(crate::proofs::Digits::at_most_10))]
+    fn put_count(&mut self, n: u32)
+        requires { self.old.len + 11 ≤ length self.old.buffer.now }
+        ensures adds { Adds (space ++ decimal n) self.old self.new }
+        ensures upper_bound { self.new.len ≤ self.old.len + 11 }
+    {
+        self.put(b" ");
+        self.put_number(u64::from(n));
+    }
+
+    // What a granted write or create adds, if anything.
+    pub(crate) fn put_more(&mut self, more: More)
+        requires { self.old.len + 16 ≤ length self.old.buffer.now }
+        ensures adds { Adds (more_text more) self.old self.new }
+        ensures upper_bound { self.new.len ≤ self.old.len + 16 }
+    {
+        match more {
+            More::Nothing => {}
+            More::Patches(n) => self.put_count(n),
+            More::Patch(n, hold) => {
+                self.put_count(n);
+                self.put(hold_text(hold));
+            }
+        }
+    }
 }
 
 // The word between two spaces.
-pub(crate) fn put_word(out: &mut [u8], at: usize, word: Word) -> usize
-    requires { at + 10 ≤ length out.old }
-    ensures laid { Laid out.old at (space ++ word_text word ++ space) out.new result }
-    ensures upper_bound { result ≤ at + 10 }
+#[tactic(auto, unfolding(crate::specs::Line::word_text))]
+pub(crate) fn word_text(word: Word) -> &'static [u8]
+    ensures text { result.now ≡ space ++ word_text word ++ space }
+    ensures upper_bound { length result.now ≤ 10 }
 {
     match word {
-        Word::Open => put(out, at, b" open "),
-        Word::Create => put(out, at, b" create "),
-        Word::Write => put(out, at, b" write "),
-        Word::Complete => put(out, at, b" complete "),
-        Word::Cut => put(out, at, b" cut "),
-        Word::Bad => put(out, at, b" bad "),
+        Word::Open => b" open ",
+        Word::Create => b" create ",
+        Word::Write => b" write ",
+        Word::Complete => b" complete ",
+        Word::Cut => b" cut ",
+        Word::Bad => b" bad ",
     }
 }
 
 // Hard or soft, after a space.
-fn put_hold(out: &mut [u8], at: usize, hold: Hold) -> usize
-    requires { at + 5 ≤ length out.old }
-    ensures laid { Laid out.old at (space ++ hold_text hold) out.new result }
-    ensures upper_bound { result ≤ at + 5 }
+#[tactic(auto, unfolding(crate::specs::Line::hold_text))]
+fn hold_text(hold: Hold) -> &'static [u8]
+    ensures text { result.now ≡ space ++ hold_text hold }
+    ensures upper_bound { length result.now ≤ 5 }
 {
     match hold {
-        Hold::Hard => put(out, at, b" hard"),
-        Hold::Soft(_) => put(out, at, b" soft"),
-    }
-}
-
-// A number after a space.
-fn put_count(out: &mut [u8], at: usize, n: u32) -> usize
-    requires { at + 11 ≤ length out.old }
-    ensures laid { Laid out.old at (space ++ decimal n) out.new result }
-    ensures upper_bound { result ≤ at + 11 }
-{
-    let after_space = put(out, at, b" ");
-    number::put(out, after_space, n as u64)
-}
-
-// What a granted write or create adds, if anything.
-pub(crate) fn put_more(out: &mut [u8], at: usize, more: More) -> usize
-    requires { at + 16 ≤ length out.old }
-    ensures laid { Laid out.old at (more_text more) out.new result }
-    ensures upper_bound { result ≤ at + 16 }
-{
-    match more {
-        More::Nothing => at,
-        More::Patches(n) => put_count(out, at, n),
-        More::Patch(n, hold) => {
-            let after_count = put_count(out, at, n);
-            put_hold(out, after_count, hold)
-        }
+        Hold::Hard => b" hard",
+        Hold::Soft(_) => b" soft",
     }
 }

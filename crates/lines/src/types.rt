@@ -3,7 +3,7 @@
 use rules::Hold;
 
 // The word of a record, or of what is no record.
-#[derive(Clone, Copy)]
+#[derive(Clone, Copy, Debug, PartialEq, Eq)]
 pub enum Word {
     Open,
     Create,
@@ -14,7 +14,7 @@ pub enum Word {
 }
 
 // What a granted write or create adds: how many patches went; the patch's number, and hard or soft.
-#[derive(Clone, Copy)]
+#[derive(Clone, Copy, Debug, PartialEq, Eq)]
 pub enum More {
     Nothing,
     Patches(u32),
@@ -22,7 +22,7 @@ pub enum More {
 }
 
 // One line: the record's place in the trace, its word, the answer's number, and more.
-#[derive(Clone, Copy)]
+#[derive(Clone, Copy, Debug, PartialEq, Eq)]
 pub struct Line {
     pub place: u64,
     pub word: Word,

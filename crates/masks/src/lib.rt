@@ -15,20 +15,14 @@ const LAST_SLOT: usize = 63;
 pub fn has(set: u64, i: usize) -> bool
     ensures { result ≡ has set i }
 {
-    if LAST_SLOT < i {
-        return false;
-    }
-    (set >> i) & 1 == 1
+    i <= LAST_SLOT && (set >> i) & 1 == 1
 }
 
 // The set with slot i besides.
 pub fn with(set: u64, i: usize) -> u64
     ensures { result ≡ set_of (λ k. has set k || eqb k i) }
 {
-    if LAST_SLOT < i {
-        return set;
-    }
-    set | 1u64 << i
+    if LAST_SLOT < i { set } else { set | 1 << i }
 }
 
 // The set with slot i besides, where `goes` says so.
@@ -56,24 +50,19 @@ pub fn without(set: u64, gone: u64) -> u64
 pub fn within(a: u64, b: u64) -> bool
     ensures { result ≡ within a b }
 {
-    if a & !b == 0 { true } else { false }
+    a & !b == 0
 }
 
 // Whether some slot is in both.
 pub fn meets(a: u64, b: u64) -> bool
     ensures { Decides (Meet a b) result }
 {
-    if a & b == 0 { false } else { true }
+    a & b != 0
 }
 
-// The lowest number below n that is not in the set; n where there is none.
-pub fn lowest_outside(set: u64, n: usize) -> usize
+// The lowest number below n that is not in the set.
+pub fn lowest_outside(set: u64, n: usize) -> Option<usize>
     ensures { LowestOr n (Outside set) result }
 {
-    for i in 0..n {
-        if !has(set, i) {
-            return i;
-        }
-    }
-    n
+    (0..n).find(|&i| !has(set, i))
 }

@@ -4,12 +4,12 @@ use Prim.Native.Nat.{ℕ}
 use mathlib.Core.Path.{◌≡◌, refl, sym, subst}
 use mathlib.Core.List.{List, [], ◌∷◌, ◌++◌, append-nil}
 use lib.ListN.{length}
+use Rattle.std.specs.Prelude.{Ok}
 use Rattle.spans.specs.Spans.{splice}
 use borrow.Author.Tests.{ne_eqb}
 use Rattle.rules.proofs.Cases.{as_is, as_well, none_differs, first_alike}
 use Rattle.records.specs.Record.{Call, writes, completes, high_first, value_of, record_of, record_bytes, trace_of, Fits, AllFit, In}
 use Rattle.records.specs.Inside.{block_bytes}
-use Rattle.records.specs.declared.types.Recorded.TheVariants as recorded
 use Rattle.records.proofs.Recorded.{is_recorded}
 use Rattle.records.specs.Writer.{Recording, recording, record_laid, RecordsBytes, Records, calls_made, JointRecords}
 
@@ -53,8 +53,8 @@ both_fit x y first e f =
 -- and both are recorded where both are laid, one after the other
 pub recorded_both : {buffer after : List ℕ} (x y first : ℕ) → first ≡ 0 → length buffer ≡ record_bytes → In 1 x → In 1 y
     → after ≡ splice buffer 0 (block_bytes 4 x ++ block_bytes 3 y)
-    → JointRecords buffer x y first (recording (recorded.Length 8) after)
+    → JointRecords buffer x y first (recording (Ok 8) after)
 unfolding trace_of record_of value_of high_first
 recorded_both {buffer} {after} x y first e s fx fy laid =
-    subst (λ (cs : List Call). RecordsBytes buffer (AllFit cs) (trace_of cs) (recording (recorded.Length 8) after)) (sym (both_made x y first e))
+    subst (λ (cs : List Call). RecordsBytes buffer (AllFit cs) (trace_of cs) (recording (Ok 8) after)) (sym (both_made x y first e))
     (is_recorded (trace_of (completes x ∷ (writes y ∷ []))) s (AllFit.and_more fx (AllFit.and_more fy AllFit.none)) refl laid)

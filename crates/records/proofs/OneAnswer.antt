@@ -1,6 +1,6 @@
 -- ONE ANSWER: any two outcomes that the writer's promise admits are equal; and the length that it answers is at most 1,203. Assumes nothing.
 use Prim.Native.Nat.{ℕ, ◌≤◌}
-use mathlib.Core.Path.{◌≡◌, sym, subst, ◌∙◌}
+use mathlib.Core.Path.{◌≡◌, refl, sym, subst, ◌∙◌}
 use mathlib.Core.Bool.{Bool, true, false, cond}
 use mathlib.Core.List.{List, [], ◌∷◌}
 use lib.Dec.{eqb}
@@ -8,16 +8,17 @@ use native.Mathlib.Decide.{ℕ_discrete, dec_le}
 use native.Mathlib.Omega.{arith}
 use lib.ListN.{length}
 use Rattle.rules.specs.Refusals.{First}
+use Rattle.rules.specs.Calls.{answer_number}
 use Rattle.rules.proofs.Cases.{passed}
 use Rattle.rules.proofs.Outcomes.{outcome_one}
 use Rattle.records.specs.Record.{Call, writes, completes, high_first, value_of, record_of, record_bytes, Fits, AllFit, trace_of}
-use Rattle.records.specs.Writer.{Recording, record_number, record_length, cases_of, RecordsBytes, Records, calls_made, JointRecords}
+use Rattle.records.specs.Writer.{Recording, record_length, cases_of, RecordsBytes, Records, calls_made, JointRecords}
 use Rattle.records.proofs.Reading.{length_record}
 use Rattle.records.proofs.ReadBack.{length_short}
 
 -- whatever is recorded
 pub bytes_one : (buffer : List ℕ) (Fit : Type 0) (bytes : List ℕ) (o p : Recording) → RecordsBytes buffer Fit bytes o → RecordsBytes buffer Fit bytes p → o ≡ p
-bytes_one buffer Fit bytes = outcome_one (λ f o p a b. a ∙ sym b)
+bytes_one buffer Fit bytes = outcome_one (λ r. refl) (λ f o p a b. a ∙ sym b)
 
 pub record_one : (buffer : List ℕ) (c : Call) (o p : Recording) → Records buffer c o → Records buffer c p → o ≡ p
 record_one buffer c = bytes_one buffer (Fits c) (record_of c)
@@ -28,9 +29,9 @@ joint_record_one buffer x y first = bytes_one buffer (AllFit (calls_made first x
 -- the length that is answered is at most 1,203, where what fits is so short
 bytes_short : (buffer : List ℕ) (Fit : Type 0) (bytes : List ℕ) → (Fit → length bytes ≤ record_bytes)
     → (o : Recording) → RecordsBytes buffer Fit bytes o → record_length o.answer ≤ record_bytes
-bytes_short buffer Fit bytes all o p = elim (ℕ_discrete (record_number o.answer) 0) [
+bytes_short buffer Fit bytes all o p = elim (ℕ_discrete (answer_number o.answer) 0) [
   | yes z ↦ subst short (sym (p.grant z)) (granted_short (subst (First (cases_of buffer Fit)) z p.first))
-  | no d ↦ subst short (sym (p.refusal d)) (omega arith)
+  | no d ↦ subst short (sym (p.refusal d).1) (omega arith)
 ]
   where
     short : Recording → Type 0

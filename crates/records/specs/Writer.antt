@@ -1,42 +1,37 @@
 -- What the writer's functions promise: the length of the call's record and every byte of the lent buffer afterwards, granted and refused alike.
-use Rattle.std.specs.Prelude.{ℕ, ◌≡◌, cond, List, [], ◌∷◌, eqb, length}
+use Rattle.std.specs.Prelude.{ℕ, ◌≡◌, cond, List, [], ◌∷◌, eqb, length, Result, Ok, Err}
 use Rattle.spans.specs.Spans.{splice}
+use Rattle.rules.specs.declared.refusals.Refusal.{Refusal}
 use Rattle.rules.specs.Refusals.{Case, case, WrongSize}
-use Rattle.rules.specs.Calls.{Outcome}
-use Rattle.records.specs.declared.types.Recorded.{Recorded}
-use Rattle.records.specs.declared.types.Recorded.TheVariants as recorded
+use Rattle.rules.specs.Calls.{Outcome, answer_number}
 use Rattle.records.specs.Record.{Call, writes, completes, record_of, record_bytes, Fits, AllFit, trace_of}
 
--- the refusal number and the record's length, for each case of the answer
-abbrev pub record_number : Recorded → ℕ
-record_number (recorded.Length n) = 0
-record_number (recorded.Refused k) = k
-
-abbrev pub record_length : Recorded → ℕ
-record_length (recorded.Length n) = n
-record_length (recorded.Refused k) = 0
+-- the record's length, for each case of the answer
+abbrev pub record_length : Result ℕ Refusal → ℕ
+record_length (Ok n) = n
+record_length (Err r) = 0
 
 -- what a function of the writer leaves: its answer and the lent buffer
 pub record Recording : Type 0 where
-  pub answer : Recorded
+  pub answer : Result ℕ Refusal
   pub buffer : List ℕ
 
-abbrev pub recording : Recorded → List ℕ → Recording
+abbrev pub recording : Result ℕ Refusal → List ℕ → Recording
 recording a buffer = record { answer = a; buffer = buffer }
 
 -- 1: the lent buffer has not its exact size, 1,203 bytes; 16: what was called fits no record
 abbrev pub cases_of : List ℕ → Type 0 → List Case
 cases_of buffer Fit = case 1 (WrongSize record_bytes buffer) ∷ case 16 (Fit → ⊥) ∷ []
 
-abbrev pub record_refused : List ℕ → ℕ → Recording
-record_refused buffer k = recording (recorded.Refused k) buffer
+abbrev pub record_refused : List ℕ → Refusal → Recording
+record_refused buffer r = recording (Err r) buffer
 
 -- bytes are laid over the buffer's first, and the others stay
 abbrev pub record_laid : List ℕ → List ℕ → Recording
-record_laid buffer bytes = recording (recorded.Length (length bytes)) (splice buffer 0 bytes)
+record_laid buffer bytes = recording (Ok (length bytes)) (splice buffer 0 bytes)
 
 abbrev pub RecordsBytes : List ℕ → Type 0 → List ℕ → Recording → Type 0
-RecordsBytes buffer Fit bytes = Outcome (cases_of buffer Fit) (λ o. record_number o.answer) (record_refused buffer) (λ o. o ≡ record_laid buffer bytes)
+RecordsBytes buffer Fit bytes = Outcome (cases_of buffer Fit) (λ o. answer_number o.answer) (record_refused buffer) (λ o. o ≡ record_laid buffer bytes)
 
 -- one call: its record
 abbrev pub Records : List ℕ → Call → Recording → Type 0

@@ -2,9 +2,9 @@
 // Neither knows the table; what a trace's calls do is `trace`.
 #![tactic(auto)]
 
-mod from_bytes;
+mod bytes;
 pub mod reader;
 pub mod sizes;
-mod to_bytes;
+mod tag;
 pub mod types;
 pub mod writer;

@@ -1,4 +1,4 @@
-// The sizes and tags of a record, as the code has them; specs/Record.antt says what they mean.
+// The sizes of a record, as the code has them; specs/Record.antt says what they mean.
 
 pub const RECORD_BYTES: usize = 1203;
 
@@ -14,16 +14,3 @@ pub const CREATE_BYTES: usize = 4;
 
 // How many numbers a create's record can have.
 pub const MOST_NUMBERS: usize = 255;
-
-// The refusal: a call that fits no record, or a trace that is bad.
-pub const NO_RECORD: u32 = 16;
-
-pub const OPEN: u32 = 1;
-
-pub const CREATE: u32 = 2;
-
-pub const WRITE: u32 = 3;
-
-pub const COMPLETE: u32 = 4;
-
-pub const CUT: u32 = 5;

@@ -1,14 +1,7 @@
-// What the writer and the reader answer. The types stand apart, so that the definitions can name them.
-
-// What the writer answers: the record's length, or a refusal number.
-#[derive(Clone, Copy)]
-pub enum Recorded {
-    Length(usize),
-    Refused(u32),
-}
+// What the reader answers. The types stand apart, so that the definitions can name them.
 
 // A create as its record begins: how many numbers follow, and how many bytes of data after them.
-#[derive(Clone, Copy)]
+#[derive(Clone, Copy, Debug, PartialEq, Eq)]
 pub struct Head {
     pub block: u32,
     pub offset: u32,
@@ -17,7 +10,7 @@ pub struct Head {
 }
 
 // A record that is all there.
-#[derive(Clone, Copy)]
+#[derive(Clone, Copy, Debug, PartialEq, Eq)]
 pub enum Found {
     Open(u32),
     Create(Head),
@@ -28,7 +21,7 @@ pub enum Found {
 
 // What lent bytes begin with: a record; none yet, and how many bytes are still to come before more can
 // be said; or what no record begins with (16).
-#[derive(Clone, Copy)]
+#[derive(Clone, Copy, Debug, PartialEq, Eq)]
 pub enum Next {
     Record(Found),
     NoneYet(usize),

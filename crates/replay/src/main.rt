@@ -13,20 +13,20 @@ use records::sizes::RECORD_BYTES;
 use records::types::Next;
 use rules::sizes::{IMAGE_BYTES, UNDO_BYTES};
 use std::io::{self, Read};
+use std::ops::ControlFlow;
 use trace::run::{start, step};
 use trace::types::{Kept, Phase};
 
 // How many bytes are still to come of the record that these begin: 0 where no more are wanted.
 fn wanted(bytes: &[u8]) -> usize {
-    let next = next_in(bytes);
-    match next {
-        Next::Record(_) => 0,
-        Next::NoneYet(k) => k,
-        Next::Bad => 0,
+    match next_in(bytes) {
+        Next::NoneYet(more) => more,
+        Next::Record(_) | Next::Bad => 0,
     }
 }
 
-// Reads until the bytes are full or the input ends, and answers how many have come.
+// Reads until the bytes are full or the input ends, and answers how many have come. std's `read_exact` does not say
+// how many have come where the input ends first, so the loop stands here.
 fn read_full<R: Read>(input: &mut R, bytes: &mut [u8]) -> io::Result<usize>
     ensures bound { ReadsAtMost result bytes.new }
     ensures read { IfOk result (λ n. Consumes (R.remaining input.old) (R.remaining input.new)
@@ -62,68 +62,60 @@ fn read_on<R: Read>(input: &mut R, bytes: &mut [u8], have: usize) -> io::Result<
     Ok(have + read_full(input, &mut bytes[have..have + k])?)
 }
 
-// Whether the first record, open, has come.
-fn is_begun(phase: Phase) -> bool {
-    match phase {
-        Phase::Unopened => false,
-        Phase::Opened => true,
-        Phase::Over => true,
-    }
-}
-
-// What is kept after a record, and whether to go on.
+// A replay under way: what is kept between records, the two buffers that go with the table, and the bytes of one
+// record.
 #[derive(Clone, Copy)]
-struct Turned {
+struct Replay {
     kept: Kept,
-    goes_on: bool,
+    image: [u8; IMAGE_BYTES],
+    undo: [u8; UNDO_BYTES],
+    bytes: [u8; RECORD_BYTES],
 }
 
-// Reads one record and writes its line.
-fn turn(
-    rt: &impl Print,
-    input: &mut impl Read,
-    kept: Kept,
-    image: &mut [u8],
-    undo: &mut [u8],
-    bytes: &mut [u8],
-) -> io::Result<Turned> {
-    let phase = kept.phase;
-    let head = read_on(input, bytes, 0)?;
-    let n = read_on(input, bytes, head)?;
-    if n == 0 {
-        if is_begun(phase) {
-            return Ok(Turned {
-                kept,
-                goes_on: false,
-            });
+impl Replay {
+    fn new() -> Replay {
+        Replay {
+            kept: start(),
+            image: [0; IMAGE_BYTES],
+            undo: [0; UNDO_BYTES],
+            bytes: [0; RECORD_BYTES],
         }
     }
-    let mut line = [0u8; LINE_BYTES];
-    let s = step(kept, image, undo, &bytes[..n], &mut line);
-    let length = s.length;
-    let next = s.kept;
-    rt.write_all(&line[..length])?;
-    Ok(Turned {
-        kept: next,
-        goes_on: !s.bad,
-    })
+
+    // Reads one record and writes its line. It breaks off at the end of a trace that has begun, and at a bad record.
+    fn turn(&mut self, rt: &impl Print, input: &mut impl Read) -> io::Result<ControlFlow<()>> {
+        let head = read_on(input, &mut self.bytes, 0)?;
+        let n = read_on(input, &mut self.bytes, head)?;
+        if n == 0 && !matches!(self.kept.phase, Phase::Unopened) {
+            return Ok(ControlFlow::Break(()));
+        }
+        let mut line = [0; LINE_BYTES];
+        let stepped = step(
+            self.kept,
+            &mut self.image,
+            &mut self.undo,
+            &self.bytes[..n],
+            &mut line,
+        );
+        self.kept = stepped.kept;
+        rt.write_all(&line[..stepped.length])?;
+        Ok(if stepped.bad {
+            ControlFlow::Break(())
+        } else {
+            ControlFlow::Continue(())
+        })
+    }
 }
 
 // A proved loop has to end, and nothing says that an input does. So the loop counts its turns, up to a
 // number that no run uses up.
 fn main(rt: HostRuntime) -> io::Result<()> {
     let mut input = rt.reader();
-    let mut image = [0u8; IMAGE_BYTES];
-    let mut undo = [0u8; UNDO_BYTES];
-    let mut bytes = [0u8; RECORD_BYTES];
-    let mut kept = start();
+    let mut replay = Replay::new();
     for _ in 0..u64::MAX {
-        let t = turn(&rt, &mut input, kept, &mut image, &mut undo, &mut bytes)?;
-        if !t.goes_on {
-            return Ok(());
+        if replay.turn(&rt, &mut input)?.is_break() {
+            break;
         }
-        let next = t.kept;
-        kept = next;
     }
     Ok(())
 }

@@ -1,7 +1,7 @@
 -- The first case that holds: how it is shown, and that it is one. Every promise's refusals rest on these.
 use Prim.Native.Nat.{ℕ, ◌≤◌}
 use mathlib.Core.Path.{◌≡◌, refl, sym, ◌∙◌}
-use mathlib.Core.List.{List, [], ◌∷◌}
+use mathlib.Core.List.{List, [], ◌∷◌, ◌++◌}
 use native.Mathlib.Omega.{arith}
 use mathlib.Core.Logic.{◌⊎◌, inl, inr}
 use Rattle.rules.specs.Refusals.{Case, case, FirstOf, First}
@@ -17,6 +17,31 @@ passes c f = record { is = inr (c, f.is) }
 pub none_holds : First [] 0
 unfolding FirstOf
 none_holds = record { is = refl }
+
+-- the first case that holds is still the first where others come after
+still : (l more : List Case) (k : ℕ) → (k ≡ 0 → ⊥) → FirstOf l k → FirstOf (l ++ more) k
+unfolding FirstOf
+still [] more k d e = absurd (d e)
+still (c ∷ l) more k d (inl p) = inl p
+still (c ∷ l) more k d (inr p) = inr (p.0, still l more k d p.1)
+
+pub first_still : {l : List Case} {k : ℕ} (more : List Case) → (k ≡ 0 → ⊥) → First l k → First (l ++ more) k
+first_still {l} {k} more d f = record { is = still l more k d f.is }
+
+-- no case of the list has the number 0
+abbrev pub NoneZero : List Case → Type 0
+NoneZero [] = Unit {0}
+NoneZero (c ∷ l) = (c.number ≡ 0 → ⊥) × NoneZero l
+
+after : (l more : List Case) (k : ℕ) → NoneZero l → FirstOf l 0 → FirstOf more k → FirstOf (l ++ more) k
+unfolding FirstOf
+after [] more k z e f = f
+after (c ∷ l) more k z (inl p) f = absurd (z.0 (sym p.1))
+after (c ∷ l) more k z (inr p) f = inr (p.0, after l more k z.1 p.1 f)
+
+-- where none of them holds, the first is one of those that come after
+pub first_after : {l more : List Case} {k : ℕ} → NoneZero l → First l 0 → First more k → First (l ++ more) k
+first_after {l} {more} {k} z e f = record { is = after l more k z e.is f.is }
 
 -- a case that does not hold is passed
 pub passed : {n k : ℕ} {C : Type 0} {rest : List Case} → (k ≡ n → ⊥) → First (case n C ∷ rest) k → (C → ⊥) × First rest k

@@ -18,7 +18,7 @@ use Rattle.rules.specs.Create.{Change}
 use Rattle.rules.specs.Write.{MayGo, Largest}
 use Rattle.rules.specs.Passed.{NamesIssued, CreatePassed, WritePassed}
 use Rattle.rules.specs.Refusals.{First, OnlyEmpty, NamesUnissued, create_cases, write_cases}
-use Rattle.rules.specs.Calls.{Creation, Creates, create_number, Writing, Writes, write_number}
+use Rattle.rules.specs.Calls.{Creation, Creates, answer_number, Writing, Writes}
 use Rattle.rules.proofs.Cases.{passed}
 use Rattle.rules.proofs.Numbers.{never_issued, issued_or_not}
 
@@ -91,7 +91,7 @@ create_facts t image undo c f =
       last = λ own. let d : (t.next ≡ last_number + 1 → ⊥) = λ e. c8.0 (own, e) in omega (arith, d, is_sound.next_most);
     }
 
-pub create_passed : {t : Table} {image undo : List ℕ} {c : Change} {o : Creation} → Creates t image undo c o → create_number o.answer ≡ 0
+pub create_passed : {t : Table} {image undo : List ℕ} {c : Change} {o : Creation} → Creates t image undo c o → answer_number o.answer ≡ 0
     → CreatePassed t image undo c
 create_passed {t} {image} {undo} {c} p z = create_facts t image undo c (subst (First (create_cases t image undo c)) z p.first)
 
@@ -129,6 +129,6 @@ write_facts t image undo block b f =
       some_goes = λ s. member t.slots b s waits c6.0;
     }
 
-pub write_passed : {t : Table} {image undo block : List ℕ} {b : ℕ} {o : Writing} → Writes t image undo block b o → write_number o.answer ≡ 0
+pub write_passed : {t : Table} {image undo block : List ℕ} {b : ℕ} {o : Writing} → Writes t image undo block b o → answer_number o.answer ≡ 0
     → WritePassed t image undo block b
 write_passed {t} {image} {undo} {block} {b} p z = write_facts t image undo block b (subst (First (write_cases t image undo block b)) z p.first)

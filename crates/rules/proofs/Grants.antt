@@ -5,10 +5,10 @@ use mathlib.Core.Bool.{true, cond}
 use mathlib.Core.List.{List}
 use native.Mathlib.Omega.{arith}
 use lib.Dec.{eqb}
+use Rattle.std.specs.Prelude.{Result, Ok}
 use Rattle.rules.specs.declared.AskAnswer.{AskAnswer}
 use Rattle.rules.specs.declared.AskAnswer.TheVariants as ask
-use Rattle.rules.specs.declared.CountAnswer.{CountAnswer}
-use Rattle.rules.specs.declared.CountAnswer.TheVariants as count
+use Rattle.rules.specs.declared.refusals.Refusal.{Refusal}
 use Rattle.rules.specs.Slots.{is_waiting, is_in_flight}
 use Rattle.rules.specs.Table.{Table, slot_at, Sound, InSlot}
 use Rattle.rules.specs.Create.{Change}
@@ -67,10 +67,10 @@ unfolding told
 told_is ask.Waiting d = refl
 told_is ask.InFlight d = refl
 told_is ask.Committed d = refl
-told_is (ask.Refused k) d = absurd (d refl)
+told_is (ask.Refused r) d = absurd (d refl)
 
 pub asked_one : (t : Table) (n : ℕ) → First (ask_cases t n) 0 → (o p : AskAnswer) → Asked t n (ask_word o) → Asked t n (ask_word p) → o ≡ p
 asked_one t n f o p a b = sym (told_is o (no_word a)) ∙ ap told (word_one t n (ask_word o) (ask_word p) f a b) ∙ told_is p (no_word b)
 
-pub counts_one : (t : Table) (b : ℕ) (o p : CountAnswer) → CountsWaiting t b o → CountsWaiting t b p → o ≡ p
-counts_one t b o p x y = x.whole ∙ ap count.Granted (x.says ∙ sym y.says) ∙ sym y.whole
+pub counts_one : (t : Table) (b : ℕ) (o p : Result ℕ Refusal) → CountsWaiting t b o → CountsWaiting t b p → o ≡ p
+counts_one t b o p x y = x.whole ∙ ap Ok (x.says ∙ sym y.says) ∙ sym y.whole

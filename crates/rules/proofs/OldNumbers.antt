@@ -9,6 +9,7 @@ use Rattle.masks.specs.Sets.{bit, has, set_below, some_below}
 use Rattle.rules.specs.declared.AskAnswer.{AskAnswer}
 use Rattle.rules.specs.declared.AskAnswer.TheVariants as ask
 use Rattle.rules.specs.declared.Hold.TheVariants as hold
+use Rattle.rules.specs.declared.refusals.Refusal.TheVariants as refusal
 use Rattle.rules.specs.declared.Setting.{Setting}
 use Rattle.rules.specs.declared.Setting.TheVariants.{Board}
 use Rattle.rules.specs.Sizes.{last_number}
@@ -34,8 +35,9 @@ use Rattle.rules.proofs.Steps.{just_opened, just_opened_good, Made, create_row, 
 pub seven_only : (t : Table) (n : ℕ) → NeverIssued t n → (n ≡ 0) ⊎ (t.next ≤ n)
 seven_only t n d = ⊎_elim (λ i. absurd (d i)) (λ w. w) (issued_or_not t.next n)
 
-pub refused_seven : (t : Table) (n : ℕ) → Sound t → (n ≡ 0) ⊎ (t.next ≤ n) → (a : AskAnswer) → Asks t n a → a ≡ ask.Refused 7
-refused_seven t n s w a p = ask_one t n a (ask.Refused 7) p (refuses 7 (passes (λ u. u s) (holds (never_issued w))) refl (λ e. omega arith))
+pub refused_seven : (t : Table) (n : ℕ) → Sound t → (n ≡ 0) ⊎ (t.next ≤ n) → (a : AskAnswer) → Asks t n a → a ≡ ask.Refused refusal.NeverIssued
+refused_seven t n s w a p =
+    ask_one t n a (ask.Refused refusal.NeverIssued) p (refuses refusal.NeverIssued (passes (λ u. u s) (holds (never_issued w))) refl)
 
 -- ---- an old number has committed
 
@@ -67,10 +69,10 @@ module _ (g : Setting) (n : ℕ) (least : 1 ≤ n) (most : n ≤ last_number) wh
   pub below_first : (m : ℕ) → 1 ≤ m → m < n → (a : AskAnswer) → Asks (opened g n) m a → a ≡ ask.Committed
   below_first m l k = old_asked (opened g n) (opened_sound g n least most) m (l, k)
 
-  pub zero_refused : (a : AskAnswer) → Asks (opened g n) 0 a → a ≡ ask.Refused 7
+  pub zero_refused : (a : AskAnswer) → Asks (opened g n) 0 a → a ≡ ask.Refused refusal.NeverIssued
   zero_refused = refused_seven (opened g n) 0 (opened_sound g n least most) (inl refl)
 
-  pub first_refused : (a : AskAnswer) → Asks (opened g n) n a → a ≡ ask.Refused 7
+  pub first_refused : (a : AskAnswer) → Asks (opened g n) n a → a ≡ ask.Refused refusal.NeverIssued
   first_refused = refused_seven (opened g n) n (opened_sound g n least most) (inr (omega arith))
 
 -- opened at 1, nothing is below first

@@ -7,6 +7,7 @@ use lib.ListN.{replicate}
 use Rattle.masks.specs.Sets.{bit, has, set_below, some_below}
 use Rattle.spans.specs.Spans.{splice}
 use Rattle.rules.specs.declared.Setting.TheVariants.{Board}
+use Rattle.rules.specs.declared.refusals.Refusal.TheVariants.{NoneMayGo, InFlight}
 use Rattle.rules.specs.declared.Hold.TheVariants as hold
 use Rattle.rules.specs.Sizes.{block_bytes}
 use Rattle.rules.specs.Settings.{rooms, joins, all_soft}
@@ -82,7 +83,7 @@ P4 =
     (lowest_free r3.table.slots 2 (omega arith) refl refl)
     (HoldOf.soft soft (record { within = omega arith; holds = room_free r3.table.slots 0 refl; least = λ i l. absurd (omega arith) }))
 
-P5 : Stayed r4 lent 2 13
+P5 : Stayed r4 lent 2 NoneMayGo
 unfolding list_from accepted accepted_slots joined joined_slots added patch befores is_in set_below some_below round rounds has bit
 P5 = write-none r4 P4.1 2 lent (omega arith) refl 2 0 refl refl refl 1 (omega arith) refl refl
 
@@ -93,7 +94,7 @@ P6 = write_row r4 P4.1 1 lent (omega arith) refl 2 1 refl refl refl 0 refl
 abbrev r6 : Radio
 r6 = after_write (write_granted r4.table r4.image r4.undo 1 1)
 
-P7 : Stayed r6 lent 1 11
+P7 : Stayed r6 lent 1 InFlight
 unfolding list_from accepted accepted_slots joined joined_slots added patch befores is_in set_below sent sent_slots has bit
 P7 = write_flies r6 P6.1 1 lent (omega arith) refl 0 (omega arith) refl
 
@@ -112,7 +113,7 @@ P8b = write_row r8a P8a.1 2 lent (omega arith) refl 1 2 refl refl refl 1 refl
 abbrev r8 : Radio
 r8 = after_write (write_granted r8a.table r8a.image r8a.undo 2 2)
 
-P9 : Stayed r8 lent 1 13
+P9 : Stayed r8 lent 1 NoneMayGo
 unfolding list_from accepted accepted_slots joined joined_slots added patch befores is_in set_below sent sent_slots
     completed completed_slots landed_slots some_below round rounds has bit
 P9 = write-none r8 P8b.1 1 lent (omega arith) refl 2 0 refl refl refl 2 (omega arith) refl refl

@@ -10,7 +10,7 @@ use Rattle.rules.specs.Table.{Table}
 use Rattle.rules.specs.Create.{Change, accepted, joined}
 use Rattle.rules.specs.Write.{sent}
 use Rattle.rules.specs.Complete.{completed}
-use Rattle.rules.specs.Calls.{Opening, Opens, plain_number, Creation, Creates, Accepts, create_number, Writing, Writes, write_number}
+use Rattle.rules.specs.Calls.{Opening, Opens, answer_number, Creation, Creates, Accepts, Writing, Writes}
 use Rattle.rules.specs.Calls.{sent_set, Completion, Completes}
 
 accepted_setting : (t : Table) (c : Change) (j : ℕ) (h : Hold) → (accepted t c j h).setting ≡ t.setting
@@ -30,33 +30,33 @@ unfolding completed
 completed_setting t b = refl
 
 pub open_setting : (g : Setting) (n : ℕ) (o : Opening) → Opens g n o → o.table.setting ≡ g
-open_setting g n o p = go (ℕ_discrete (plain_number o.answer) 0)
+open_setting g n o p = go (ℕ_discrete (answer_number o.answer) 0)
   where
-    go : Dec (plain_number o.answer ≡ 0) → o.table.setting ≡ g
-    go (no d) = ap (λ (x : Opening). x.table.setting) (p.refusal d)
+    go : Dec (answer_number o.answer ≡ 0) → o.table.setting ≡ g
+    go (no d) = ap (λ (x : Opening). x.table.setting) (p.refusal d).1
     go (yes z) = ap (λ (x : Opening). x.table.setting) (p.grant z)
 
 pub create_setting : (t : Table) (image undo : List ℕ) (c : Change) (o : Creation) → Creates t image undo c o → o.table.setting ≡ t.setting
-create_setting t image undo c o p = go (ℕ_discrete (create_number o.answer) 0)
+create_setting t image undo c o p = go (ℕ_discrete (answer_number o.answer) 0)
   where
     granted : Accepts t image undo c o → o.table.setting ≡ t.setting
     granted (Accepts.takes own g) = ap (λ (x : Creation). x.table.setting) g.whole ∙ accepted_setting t c g.slot g.hold
     granted (Accepts.joins j g) = ap (λ (x : Creation). x.table.setting) g.whole ∙ joined_setting t c g.slot
 
-    go : Dec (create_number o.answer ≡ 0) → o.table.setting ≡ t.setting
-    go (no d) = ap (λ (x : Creation). x.table.setting) (p.refusal d)
+    go : Dec (answer_number o.answer ≡ 0) → o.table.setting ≡ t.setting
+    go (no d) = ap (λ (x : Creation). x.table.setting) (p.refusal d).1
     go (yes z) = granted (p.grant z)
 
 pub write_setting : (t : Table) (image undo block : List ℕ) (b : ℕ) (o : Writing) → Writes t image undo block b o → o.table.setting ≡ t.setting
-write_setting t image undo block b o p = go (ℕ_discrete (write_number o.answer) 0)
+write_setting t image undo block b o p = go (ℕ_discrete (answer_number o.answer) 0)
   where
-    go : Dec (write_number o.answer ≡ 0) → o.table.setting ≡ t.setting
-    go (no d) = ap (λ (x : Writing). x.table.setting) (p.refusal d)
+    go : Dec (answer_number o.answer ≡ 0) → o.table.setting ≡ t.setting
+    go (no d) = ap (λ (x : Writing). x.table.setting) (p.refusal d).1
     go (yes z) = ap (λ (x : Writing). x.table.setting) (p.grant z).whole ∙ sent_setting t (sent_set o.answer)
 
 pub complete_setting : (t : Table) (b : ℕ) (o : Completion) → Completes t b o → o.table.setting ≡ t.setting
-complete_setting t b o p = go (ℕ_discrete (plain_number o.answer) 0)
+complete_setting t b o p = go (ℕ_discrete (answer_number o.answer) 0)
   where
-    go : Dec (plain_number o.answer ≡ 0) → o.table.setting ≡ t.setting
-    go (no d) = ap (λ (x : Completion). x.table.setting) (p.refusal d)
+    go : Dec (answer_number o.answer ≡ 0) → o.table.setting ≡ t.setting
+    go (no d) = ap (λ (x : Completion). x.table.setting) (p.refusal d).1
     go (yes z) = ap (λ (x : Completion). x.table.setting) (p.grant z) ∙ completed_setting t b

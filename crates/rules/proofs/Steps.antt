@@ -12,6 +12,8 @@ use Rattle.masks.specs.Sets.{has, some_below}
 use Rattle.masks.proofs.Laws.{has_none, has_slot, none_at}
 use Rattle.ground.proofs.Decided.{clash, and-true}
 use Rattle.spans.proofs.Laws.{length_splice}
+use Rattle.rules.specs.declared.refusals.Refusal.{Refusal}
+use Rattle.rules.specs.declared.refusals.Refusal.TheVariants as refusal
 use Rattle.rules.specs.declared.Hold.{Hold}
 use Rattle.rules.specs.declared.Hold.TheVariants as hold
 use Rattle.rules.specs.declared.Setting.{Setting}
@@ -81,8 +83,8 @@ abbrev pub Done : Radio → ℕ → Type 0
 Done r b = Completes r.table b (complete_granted r.table b) × Good (after_complete r (complete_granted r.table b))
 
 -- a refused write
-abbrev pub Stayed : Radio → List ℕ → ℕ → ℕ → Type 0
-Stayed r lent b k = Writes r.table r.image r.undo lent b (write_refused r.table r.image r.undo lent k)
+abbrev pub Stayed : Radio → List ℕ → ℕ → Refusal → Type 0
+Stayed r lent b q = Writes r.table r.image r.undo lent b (write_refused r.table r.image r.undo lent q)
 
 -- a granted open
 pub open_row : (g : Setting) (n : ℕ) → (n ≡ 0 → ⊥) → n ≤ last_number → Opens g n (open_granted g n)
@@ -192,14 +194,14 @@ module _ (r : Radio) (g : Good r) where
   module _ (b : ℕ) (lent : List ℕ) (is_Block : b < blocks) (whole : length lent ≡ block_bytes) where
     -- refused 11
     pub write_flies : (i : ℕ) → i < slots → flies_on r.table.slots b i ≡ true
-        → Stayed r lent b 11
+        → Stayed r lent b refusal.InFlight
     write_flies i l f =
-        refuses 11
+        refuses refusal.InFlight
         (passes (⊎_elim (λ n. n g.image_whole) (⊎_elim (λ n. n g.undo_whole) (λ n. n whole)))
         (passes (λ n. n g.sound)
         (passes (λ l. omega arith)
         (holds (i, l, f)))))
-        refl (λ e. omega arith)
+        refl
 
     -- n rounds, after which none strikes
     module _ (n s : ℕ) (still : some_below (flies_on r.table.slots b) slots ≡ false)
@@ -211,16 +213,16 @@ module _ (r : Radio) (g : Good r) where
           (rounds_largest r.table.slots b n (ap (round r.table.slots (hard_set r.table.slots b)) searches ∙ settled ∙ sym searches))
 
       -- refused 13
-      pub write-none : (i : ℕ) → i < slots → waits_on r.table.slots b i ≡ true → s ≡ 0 → Stayed r lent b 13
+      pub write-none : (i : ℕ) → i < slots → waits_on r.table.slots b i ≡ true → s ≡ 0 → Stayed r lent b refusal.NoneMayGo
       write-none i l w z =
-          refuses 13
+          refuses refusal.NoneMayGo
           (passes (⊎_elim (λ n. n g.image_whole) (⊎_elim (λ n. n g.undo_whole) (λ n. n whole)))
           (passes (λ n. n g.sound)
           (passes (λ l. omega arith)
           (passes (flies_not b still)
           (passes (λ n. n (i, l, w))
           (holds ((i, l, w), largest_empty (subst (Largest r.table.slots b) z largest))))))))
-          refl (λ e. omega arith)
+          refl
 
       -- granted
       pub write_row : (i : ℕ) → has s i ≡ true → Went r lent b s

@@ -10,7 +10,7 @@ abbrev pub ask_word : AskAnswer → ℕ
 ask_word answer.Waiting = 1
 ask_word answer.InFlight = 2
 ask_word answer.Committed = 3
-ask_word (answer.Refused k) = 0
+ask_word (answer.Refused r) = 0
 
 -- what a word says of an issued number
 pub data Asked (t : Table) (n word : ℕ) : Type 0 where

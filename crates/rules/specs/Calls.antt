@@ -1,19 +1,13 @@
 -- Each call whole: its answer, the next table and every lent byte, granted and refused alike. These are what the promises of `cache` cite.
-use Rattle.std.specs.Prelude.{ℕ, ◌≡◌, List}
+use Rattle.std.specs.Prelude.{ℕ, ◌≡◌, List, Result, Ok, Err}
 use Rattle.std.proofs.Math.Option.{Option, none, some}
 use Rattle.rules.specs.declared.Setting.{Setting}
 use Rattle.rules.specs.declared.Hold.{Hold}
 use Rattle.rules.specs.declared.Hold.TheVariants as hold
-use Rattle.rules.specs.declared.CreateAnswer.{CreateAnswer}
-use Rattle.rules.specs.declared.CreateAnswer.TheVariants as create
-use Rattle.rules.specs.declared.WriteAnswer.{WriteAnswer}
-use Rattle.rules.specs.declared.WriteAnswer.TheVariants as write
+use Rattle.rules.specs.declared.Created.{Created}
 use Rattle.rules.specs.declared.AskAnswer.{AskAnswer}
 use Rattle.rules.specs.declared.AskAnswer.TheVariants as ask
-use Rattle.rules.specs.declared.CountAnswer.{CountAnswer}
-use Rattle.rules.specs.declared.CountAnswer.TheVariants as count
-use Rattle.rules.specs.declared.Answer.{Answer}
-use Rattle.rules.specs.declared.Answer.TheVariants as plain
+use Rattle.rules.specs.declared.refusals.Refusal.{Refusal}
 use Rattle.rules.specs.Sizes.{slots}
 use Rattle.rules.specs.Table.{Table, slot_at}
 use Rattle.rules.specs.Open.{opened}
@@ -23,58 +17,55 @@ use Rattle.rules.specs.Write.{Largest, handed_out, sent}
 use Rattle.rules.specs.Complete.{completed}
 use Rattle.rules.specs.Ask.{ask_word, Asked}
 use Rattle.rules.specs.Count.{waiting_on}
-use Rattle.rules.specs.Refusals.{Case, First, TakesSlot, open_cases, create_cases, write_cases, complete_cases, ask_cases, count_cases}
+use Rattle.rules.specs.Refusals.{number_of, Case, First, TakesSlot, open_cases, create_cases, write_cases, complete_cases, ask_cases, count_cases}
 
--- An outcome o of a call: its refusal number is the first that holds among the call's cases; refused, the outcome is all as it came; granted, it is what
--- the call does.
-pub record Outcome {O : Type 0} (cases : List Case) (number : O → ℕ) (refused : ℕ → O) (Granted : O → Type 0) (o : O) : Type 0 where
+-- the paper's number for each case of an answer: 0 where the call is granted
+abbrev pub answer_number : {A : Type 0} → Result A Refusal → ℕ
+answer_number (Ok a) = 0
+answer_number (Err r) = number_of r
+
+-- An outcome o of a call: its refusal number is the first that holds among the call's cases; refused, the outcome is all as it came, with a refusal; granted,
+-- it is what the call does.
+pub record Outcome {O : Type 0} (cases : List Case) (number : O → ℕ) (refused : Refusal → O) (Granted : O → Type 0) (o : O) : Type 0 where
   pub first : First cases (number o)
-  pub refusal : (number o ≡ 0 → ⊥) → o ≡ refused (number o)
+  pub refusal : (number o ≡ 0 → ⊥) → (r : Refusal) × (o ≡ refused r)
   pub grant : number o ≡ 0 → Granted o
 
--- OPEN. The paper's number for each case of its answer, and of complete's
-abbrev pub plain_number : Answer → ℕ
-plain_number plain.Granted = 0
-plain_number (plain.Refused k) = k
-
+-- OPEN
 pub record Opening : Type 0 where
-  pub answer : Answer
+  pub answer : Result (Unit {0}) Refusal
   pub table : Table
 
-abbrev pub open_refused : Setting → ℕ → Opening
-open_refused g k = record { answer = plain.Refused k; table = opened g 1 }
+abbrev pub open_refused : Setting → Refusal → Opening
+open_refused g r = record { answer = Err r; table = opened g 1 }
 
 abbrev pub open_granted : Setting → ℕ → Opening
-open_granted g n = record { answer = plain.Granted; table = opened g n }
+open_granted g n = record { answer = Ok tt; table = opened g n }
 
 abbrev pub Opens : Setting → ℕ → Opening → Type 0
-Opens g n = Outcome (open_cases n) (λ o. plain_number o.answer) (open_refused g) (λ o. o ≡ open_granted g n)
+Opens g n = Outcome (open_cases n) (λ o. answer_number o.answer) (open_refused g) (λ o. o ≡ open_granted g n)
 
--- CREATE. The paper's refusal number, the patch's number, and hard or soft, for each case of its answer
-abbrev pub create_number : CreateAnswer → ℕ
-create_number (create.Granted n h) = 0
-create_number (create.Refused k) = k
+-- CREATE. The patch's number, and hard or soft, for each case of its answer
+abbrev pub patch_number : Result Created Refusal → ℕ
+patch_number (Ok a) = a.number
+patch_number (Err r) = 0
 
-abbrev pub patch_number : CreateAnswer → ℕ
-patch_number (create.Granted n h) = n
-patch_number (create.Refused k) = 0
-
-abbrev pub hard_or_soft : CreateAnswer → Option Hold
-hard_or_soft (create.Granted n h) = some h
-hard_or_soft (create.Refused k) = none
+abbrev pub hard_or_soft : Result Created Refusal → Option Hold
+hard_or_soft (Ok a) = some a.hold
+hard_or_soft (Err r) = none
 
 pub record Creation : Type 0 where
-  pub answer : CreateAnswer
+  pub answer : Result Created Refusal
   pub table : Table
   pub image : List ℕ
   pub undo : List ℕ
 
-abbrev pub create_refused : Table → List ℕ → List ℕ → ℕ → Creation
-create_refused t image undo k = record { answer = create.Refused k; table = t; image = image; undo = undo }
+abbrev pub create_refused : Table → List ℕ → List ℕ → Refusal → Creation
+create_refused t image undo r = record { answer = Err r; table = t; image = image; undo = undo }
 
 abbrev pub create_granted : Table → List ℕ → List ℕ → Change → ℕ → Hold → Creation
 create_granted t image undo c j h = record {
-  answer = create.Granted t.next h;
+  answer = Ok (record { number = t.next; hold = h });
   table = accepted t c j h;
   image = changed image c;
   undo = kept undo image c h;
@@ -82,7 +73,7 @@ create_granted t image undo c j h = record {
 
 abbrev pub create_joined : Table → List ℕ → List ℕ → Change → ℕ → Creation
 create_joined t image undo c j = record {
-  answer = create.Granted (slot_at t.slots j).number hold.Hard;
+  answer = Ok (record { number = (slot_at t.slots j).number; hold = hold.Hard });
   table = joined t c j;
   image = changed image c;
   undo = undo;
@@ -112,30 +103,26 @@ pub data Accepts (t : Table) (image undo : List ℕ) (c : Change) (o : Creation)
   joins : Joins t.setting t.slots c.block → JoinsOne t image undo c o → Accepts t image undo c o
 
 abbrev pub Creates : Table → List ℕ → List ℕ → Change → Creation → Type 0
-Creates t image undo c = Outcome (create_cases t image undo c) (λ o. create_number o.answer) (create_refused t image undo) (Accepts t image undo c)
+Creates t image undo c = Outcome (create_cases t image undo c) (λ o. answer_number o.answer) (create_refused t image undo) (Accepts t image undo c)
 
--- WRITE. The paper's refusal number and the set of slots sent, for each case of its answer
-abbrev pub write_number : WriteAnswer → ℕ
-write_number (write.Granted s) = 0
-write_number (write.Refused k) = k
-
-abbrev pub sent_set : WriteAnswer → ℕ
-sent_set (write.Granted s) = s
-sent_set (write.Refused k) = 0
+-- WRITE. The set of slots sent, for each case of its answer
+abbrev pub sent_set : Result ℕ Refusal → ℕ
+sent_set (Ok s) = s
+sent_set (Err r) = 0
 
 pub record Writing : Type 0 where
-  pub answer : WriteAnswer
+  pub answer : Result ℕ Refusal
   pub table : Table
   pub image : List ℕ
   pub undo : List ℕ
   pub block : List ℕ
 
-abbrev pub write_refused : Table → List ℕ → List ℕ → List ℕ → ℕ → Writing
-write_refused t image undo block k = record { answer = write.Refused k; table = t; image = image; undo = undo; block = block }
+abbrev pub write_refused : Table → List ℕ → List ℕ → List ℕ → Refusal → Writing
+write_refused t image undo block r = record { answer = Err r; table = t; image = image; undo = undo; block = block }
 
 abbrev pub write_granted : Table → List ℕ → List ℕ → ℕ → ℕ → Writing
 write_granted t image undo b s = record {
-  answer = write.Granted s;
+  answer = Ok s;
   table = sent t s;
   image = image;
   undo = undo;
@@ -149,45 +136,41 @@ pub record Sends (t : Table) (image undo : List ℕ) (b : ℕ) (o : Writing) : T
 
 abbrev pub Writes : Table → List ℕ → List ℕ → List ℕ → ℕ → Writing → Type 0
 Writes t image undo block b =
-    Outcome (write_cases t image undo block b) (λ o. write_number o.answer) (write_refused t image undo block) (Sends t image undo b)
+    Outcome (write_cases t image undo block b) (λ o. answer_number o.answer) (write_refused t image undo block) (Sends t image undo b)
 
 -- COMPLETE
 pub record Completion : Type 0 where
-  pub answer : Answer
+  pub answer : Result (Unit {0}) Refusal
   pub table : Table
 
-abbrev pub complete_refused : Table → ℕ → Completion
-complete_refused t k = record { answer = plain.Refused k; table = t }
+abbrev pub complete_refused : Table → Refusal → Completion
+complete_refused t r = record { answer = Err r; table = t }
 
 abbrev pub complete_granted : Table → ℕ → Completion
-complete_granted t b = record { answer = plain.Granted; table = completed t b }
+complete_granted t b = record { answer = Ok tt; table = completed t b }
 
 abbrev pub Completes : Table → ℕ → Completion → Type 0
-Completes t b = Outcome (complete_cases t b) (λ o. plain_number o.answer) (complete_refused t) (λ o. o ≡ complete_granted t b)
+Completes t b = Outcome (complete_cases t b) (λ o. answer_number o.answer) (complete_refused t) (λ o. o ≡ complete_granted t b)
 
 -- ASK. The paper's number for each case of its answer; the three words are in Ask.antt
 abbrev pub ask_number : AskAnswer → ℕ
 ask_number ask.Waiting = 0
 ask_number ask.InFlight = 0
 ask_number ask.Committed = 0
-ask_number (ask.Refused k) = k
+ask_number (ask.Refused r) = number_of r
 
 abbrev pub Asks : Table → ℕ → AskAnswer → Type 0
 Asks t n = Outcome (ask_cases t n) ask_number ask.Refused (λ a. Asked t n (ask_word a))
 
--- COUNT. The paper's refusal number and the count, for each case of its answer
-abbrev pub count_number : CountAnswer → ℕ
-count_number (count.Granted n) = 0
-count_number (count.Refused k) = k
-
-abbrev pub counted : CountAnswer → ℕ
-counted (count.Granted n) = n
-counted (count.Refused k) = 0
+-- COUNT. The count, for each case of its answer
+abbrev pub counted : Result ℕ Refusal → ℕ
+counted (Ok n) = n
+counted (Err r) = 0
 
 -- the number of the block's waiting patches is the answer
-pub record CountsWaiting (t : Table) (b : ℕ) (a : CountAnswer) : Type 0 where
+pub record CountsWaiting (t : Table) (b : ℕ) (a : Result ℕ Refusal) : Type 0 where
   pub says : counted a ≡ waiting_on t.slots b
-  pub whole : a ≡ count.Granted (counted a)
+  pub whole : a ≡ Ok (counted a)
 
-abbrev pub Counts : Table → ℕ → CountAnswer → Type 0
-Counts t b = Outcome (count_cases t b) count_number count.Refused (CountsWaiting t b)
+abbrev pub Counts : Table → ℕ → Result ℕ Refusal → Type 0
+Counts t b = Outcome (count_cases t b) answer_number Err (CountsWaiting t b)

@@ -9,6 +9,7 @@ use Rattle.rules.specs.declared.State.{State}
 use Rattle.rules.specs.declared.State.TheVariants as state
 use Rattle.rules.specs.declared.Slot.{Slot}
 use Rattle.rules.specs.declared.Setting.{Setting}
+use Rattle.rules.specs.declared.Change as lent
 use Rattle.rules.specs.Sizes.{slots, block_start, room_start}
 use Rattle.rules.specs.Settings.{rooms, joins, all_soft}
 use Rattle.rules.specs.Slots.{with_state, with_befores}
@@ -23,6 +24,10 @@ pub record Change : Type 0 where
 
 abbrev pub change_of : ℕ → ℕ → List ℕ → List ℕ → Change
 change_of block offset bytes named = record { block = block; offset = offset; bytes = bytes; named = named }
+
+-- a change as the code lends it
+abbrev pub change_in : lent.Change → Change
+change_in c = change_of c.block c.offset c.bytes.now c.named.now
 
 -- slot i is free
 abbrev pub FreeSlot : List Slot → ℕ → Type 0

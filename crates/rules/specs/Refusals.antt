@@ -1,12 +1,33 @@
 -- Document 01, "Refusal numbers and their order", with document 02, request a for 8 and 9 and request b for 7: a call tests in rising number, among
 -- those listed for it, and answers the first that holds.
 use Rattle.std.specs.Prelude.{ℕ, ◌+◌, ◌<◌, ◌≤◌, ◌≡◌, true, List, [], ◌∷◌, ◌⊎◌, length}
+use Rattle.rules.specs.declared.refusals.Refusal.{Refusal}
+use Rattle.rules.specs.declared.refusals.Refusal.TheVariants as refusal
 use Rattle.rules.specs.declared.Slot.{Slot}
 use Rattle.rules.specs.Sizes.{blocks, block_bytes, image_bytes, slots, most_bytes, most_named, last_number}
 use Rattle.rules.specs.Settings.{rooms, undo_bytes}
 use Rattle.rules.specs.Table.{Table, Waits, Flies, Sound, Issued}
 use Rattle.rules.specs.Create.{Change, is_in, WouldBeHard, Joins, FreeSlot, FreeRoom}
 use Rattle.rules.specs.Write.{MayGo}
+
+-- the number of each refusal
+abbrev pub number_of : Refusal → ℕ
+number_of refusal.BufferSize = 1
+number_of refusal.NotSound = 2
+number_of refusal.NoBlock = 3
+number_of refusal.DataLength = 4
+number_of refusal.PastTheEnd = 5
+number_of refusal.ManyNames = 6
+number_of refusal.NeverIssued = 7
+number_of refusal.NoNumber = 8
+number_of refusal.NoSlot = 9
+number_of refusal.NoRoom = 10
+number_of refusal.InFlight = 11
+number_of refusal.NoneWaits = 12
+number_of refusal.NoneMayGo = 13
+number_of refusal.NoneInFlight = 14
+number_of refusal.FirstNumber = 15
+number_of refusal.NoRecord = 16
 
 -- a refusal number and what it holds for
 pub record Case : Type 1 where

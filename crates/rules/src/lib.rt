@@ -1,13 +1,15 @@
-// The types that document 01 names by place, and nothing that runs: its rules are the definitions
+// The types that document 01 names by place, and next to nothing that runs: its rules are the definitions
 // of specs/, which every promise above cites. The table itself stands with its methods, in `cache`.
 #![tactic(auto)]
 
 pub mod refusals;
 pub mod sizes;
 
+use refusals::Refusal;
+
 // The setting that a table runs under, from its opening on: the board's; and, for finding out what undo
 // costs, two that do not join and have more rooms, one with every patch soft, one by the hard rule.
-#[derive(Clone, Copy)]
+#[derive(Clone, Copy, Debug, PartialEq, Eq)]
 pub enum Setting {
     Board,
     AllSoft,
@@ -15,29 +17,29 @@ pub enum Setting {
 }
 
 // A waiting patch is hard, or soft with its undo room.
-#[derive(Clone, Copy)]
+#[derive(Clone, Copy, Debug, PartialEq, Eq)]
 pub enum Hold {
     Hard,
     Soft(u32),
 }
 
 // A patch in flight is still hard or soft, and has no room.
-#[derive(Clone, Copy)]
+#[derive(Clone, Copy, Debug, PartialEq, Eq)]
 pub enum Kind {
     Hard,
     Soft,
 }
 
-// Free stands first, so that a slot which is nowhere set is a free one.
-#[derive(Clone, Copy)]
+#[derive(Clone, Copy, Debug, Default, PartialEq, Eq)]
 pub enum State {
+    #[default]
     Free,
     Waiting(Hold),
     InFlight(Kind),
 }
 
-// Every field is wide enough that what is not sound can be passed, and judged.
-#[derive(Clone, Copy)]
+// Every field is wide enough that what is not sound can be passed, and judged. The default is a free slot.
+#[derive(Clone, Copy, Debug, Default, PartialEq, Eq)]
 pub struct Slot {
     pub state: State,
     pub number: u32,
@@ -47,48 +49,27 @@ pub struct Slot {
     pub befores: u64,
 }
 
-// What create answers: the patch's number, and hard or soft.
+// A change as it is lent to a call: its block, where in it, the data, and the numbers named before it.
 #[derive(Clone, Copy)]
-pub enum CreateAnswer {
-    Granted(u32, Hold),
-    Refused(u32),
+pub struct Change<'a> {
+    pub block: u32,
+    pub offset: u32,
+    pub bytes: &'a [u8],
+    pub named: &'a [u32],
 }
 
-// What write answers: the set of slots sent.
-#[derive(Clone, Copy)]
-pub enum WriteAnswer {
-    Granted(u64),
-    Refused(u32),
+// What a granted create says: the number of the patch that the change became or joined, and hard or soft.
+#[derive(Clone, Copy, Debug, PartialEq, Eq)]
+pub struct Created {
+    pub number: u32,
+    pub hold: Hold,
 }
 
-// What ask answers: one of the three states.
-#[derive(Clone, Copy)]
+// What ask answers: one of the three states, or a refusal with its number.
+#[derive(Clone, Copy, Debug, PartialEq, Eq)]
 pub enum AskAnswer {
     Waiting,
     InFlight,
     Committed,
-    Refused(u32),
-}
-
-// What count answers: the number of waiting patches.
-#[derive(Clone, Copy)]
-pub enum CountAnswer {
-    Granted(u32),
-    Refused(u32),
-}
-
-// What open and complete answer.
-#[derive(Clone, Copy)]
-pub enum Answer {
-    Granted,
-    Refused(u32),
-}
-
-// What the joint call answers to its write: the set of slots sent; or not tried, where completing was
-// refused.
-#[derive(Clone, Copy)]
-pub enum SecondAnswer {
-    Granted(u64),
-    Refused(u32),
-    NotTried,
+    Refused(Refusal),
 }

@@ -1,32 +1,61 @@
-// The refusal numbers of document 01, by name. Each promise above cites specs/Refusals.antt, where a
-// number stands beside its condition.
+// The refusals of document 01, by name and number, and the one of a record (document 02, request c).
+// specs/Refusals.antt says when each is given.
+ghost use Rattle.std.specs.Prelude.{◌≡◌};
+ghost use Rattle.rules.specs.Refusals.{number_of};
 
-pub const BUFFER_SIZE: u32 = 1;
+use std::error::Error;
+use std::fmt;
 
-pub const NOT_SOUND: u32 = 2;
+#[derive(Clone, Copy, Debug, PartialEq, Eq)]
+pub enum Refusal {
+    BufferSize = 1,
+    NotSound = 2,
+    NoBlock = 3,
+    DataLength = 4,
+    PastTheEnd = 5,
+    ManyNames = 6,
+    NeverIssued = 7,
+    NoNumber = 8,
+    NoSlot = 9,
+    NoRoom = 10,
+    InFlight = 11,
+    NoneWaits = 12,
+    NoneMayGo = 13,
+    NoneInFlight = 14,
+    FirstNumber = 15,
+    NoRecord = 16,
+}
 
-pub const NO_BLOCK: u32 = 3;
+impl Refusal {
+    // 0 is granted, and no refusal has it.
+    pub fn number(self) -> u32
+        ensures { result ≡ number_of self }
+    {
+        self as u32
+    }
+}
 
-pub const DATA_LENGTH: u32 = 4;
+impl fmt::Display for Refusal {
+    fn fmt<W: fmt::Write>(&self, f: &mut fmt::Formatter<W>) -> fmt::Result {
+        f.write_str(match self {
+            Refusal::BufferSize => "a lent buffer has not its exact size",
+            Refusal::NotSound => "the table is not sound",
+            Refusal::NoBlock => "block above 63",
+            Refusal::DataLength => "data length 0 or above 64",
+            Refusal::PastTheEnd => "offset + length above 256",
+            Refusal::ManyNames => "more than 8 named numbers",
+            Refusal::NeverIssued => "a named or asked number was never issued",
+            Refusal::NoNumber => "no number is left, and the change joins no patch",
+            Refusal::NoSlot => "no free slot, and the change joins no patch",
+            Refusal::NoRoom => "would be soft, and all 16 rooms are taken",
+            Refusal::InFlight => "a patch of the block is in flight",
+            Refusal::NoneWaits => "no patch of the block waits",
+            Refusal::NoneMayGo => "some wait, and none may go",
+            Refusal::NoneInFlight => "no patch of the block is in flight",
+            Refusal::FirstNumber => "first number 0 or above 1,000,000,000",
+            Refusal::NoRecord => "no record",
+        })
+    }
+}
 
-pub const PAST_THE_END: u32 = 5;
-
-pub const MANY_NAMES: u32 = 6;
-
-pub const NEVER_ISSUED: u32 = 7;
-
-pub const NO_NUMBER: u32 = 8;
-
-pub const NO_SLOT: u32 = 9;
-
-pub const NO_ROOM: u32 = 10;
-
-pub const IN_FLIGHT: u32 = 11;
-
-pub const NONE_WAITS: u32 = 12;
-
-pub const NONE_MAY_GO: u32 = 13;
-
-pub const NONE_IN_FLIGHT: u32 = 14;
-
-pub const FIRST_NUMBER: u32 = 15;
+impl Error for Refusal {}

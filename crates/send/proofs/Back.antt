@@ -8,7 +8,7 @@ use native.Mathlib.Omega.{arith}
 use borrow.Author.Count.{below_more}
 use borrow.Author.Tests.{eq-eqb}
 use lib.Dec.{eqb}
-use lib.ListN.{get_or}
+use Rattle.std.proofs.Common.{Option, Some, None, IsSomeAnd}
 use Rattle.masks.specs.Sets.{has, set_of, how_many}
 use Rattle.ground.proofs.Decided.{clash, and-true}
 use Rattle.masks.proofs.Laws.{has_none, has_of, has_slot, set_lt, size_less}
@@ -16,50 +16,45 @@ use Rattle.rules.specs.declared.Slot.{Slot}
 use Rattle.rules.specs.Table.{slot_at}
 use Rattle.rules.specs.Write.{taken_back, back_down}
 use Rattle.rules.proofs.TakenBack.{numbers_nowhere, highest_first}
-use Rattle.slots.specs.Walks.{NumbersOf}
-use Rattle.send.specs.Back.{Best}
+use Rattle.send.specs.Back.{Highest, HighestOr}
 
 -- ---- a walk that looks for it
 
-pub best_of_none : (ns : List ℕ) (left top : ℕ) → Best ns left top 0 64
-best_of_none ns left top = record {
-  in_left = λ l. absurd (omega arith);
-  low = λ l. absurd (omega arith);
-  high = λ j l. absurd (omega arith);
-  lowest = λ l. absurd (omega arith);
-}
-
-module _ {ns : List ℕ} {left top n r : ℕ} (t : Best ns left top n r) where
-  pub best_stays : (has left n ≡ true → get_or ns n 0 < top → (r < 64) × (get_or ns n 0 ≤ get_or ns r 0)) → Best ns left top (n + 1) r
-  best_stays f = record {
+module _ (ss : List Slot) (left top n : ℕ) where
+  -- the slot is not left behind, or has a number too high, or not above that of the best so far
+  pub best_stays : (r : Option ℕ) → HighestOr ss left top n r
+      → (has left n ≡ true → (slot_at ss n).number < top → IsSomeAnd r (λ b. (slot_at ss n).number ≤ (slot_at ss b).number)) → HighestOr ss left top (n + 1) r
+  best_stays None t f = below_more (λ (j : ℕ). has left j ≡ true → (slot_at ss j).number < top → ⊥) n t f
+  best_stays (Some b) t f = record {
+    within = omega (arith, t.within);
     in_left = t.in_left;
     low = t.low;
-    high = below_more (λ (j : ℕ). has left j ≡ true → get_or ns j 0 < top → (r < 64) × (get_or ns j 0 ≤ get_or ns r 0)) n t.high f;
+    high = below_more (λ (j : ℕ). has left j ≡ true → (slot_at ss j).number < top → (slot_at ss j).number ≤ (slot_at ss b).number) n t.high f;
     lowest = t.lowest;
   }
 
-  pub best_changes : n < 64 → has left n ≡ true → get_or ns n 0 < top → (r < 64 → get_or ns r 0 < get_or ns n 0) → Best ns left top (n + 1) n
-  best_changes l e h f = record {
-    in_left = λ q. e;
-    low = λ q. h;
-    high = below_more (λ (j : ℕ). has left j ≡ true → get_or ns j 0 < top → (n < 64) × (get_or ns j 0 ≤ get_or ns n 0)) n
-        (λ j q p g. let z = t.high j q p g in let y = f z.0 in (l, omega arith))
-        (λ p g. (l, omega arith));
-    lowest = λ q j k p g. let z = t.high j k p (omega arith) in let y = f z.0 in omega arith;
+  pub best_changes : (r : Option ℕ) → HighestOr ss left top n r → has left n ≡ true → (slot_at ss n).number < top
+      → ((b : ℕ) → r ≡ Some b → (slot_at ss b).number < (slot_at ss n).number) → Highest ss left top (n + 1) n
+  best_changes r t p l above = record {
+    within = omega arith;
+    in_left = p;
+    low = l;
+    high = below_more (λ (j : ℕ). has left j ≡ true → (slot_at ss j).number < top → (slot_at ss j).number ≤ (slot_at ss n).number) n
+        (λ j k q h. let m = lower r t above j k q h in omega (arith, m))
+        (λ q h. omega arith);
+    lowest = λ j k q h. let m = lower r t above j k q (omega (arith, h)) in omega (arith, m, h);
   }
+    where
+      lower : (o : Option ℕ) → HighestOr ss left top n o → ((b : ℕ) → o ≡ Some b → (slot_at ss b).number < (slot_at ss n).number)
+          → (j : ℕ) → j < n → has left j ≡ true → (slot_at ss j).number < top → (slot_at ss j).number < (slot_at ss n).number
+      lower None t above j k q h = absurd (t j k q h)
+      lower (Some b) t above j k q h = let m = t.high j k q h in omega (arith, m, above b refl)
 
 -- ---- a turn of the loop, and its end
 
-module _ {ss : List Slot} {ns : List ℕ} (numbers : NumbersOf ss ns) {left top r : ℕ} (undo : List ℕ) (t : Best ns left top 64 r) where
-  -- no slot left behind has a number between that of r and `top`
-  top_number : (j : ℕ) → j < 64 → has left j ≡ true → (slot_at ss j).number < top → (r < 64) × ((slot_at ss j).number ≤ (slot_at ss r).number)
-  top_number j k p b =
-      let e = numbers.same j k in
-      let z = t.high j k p (omega arith) in
-      (z.0, omega (arith, numbers.same r z.0))
-
+module _ {ss : List Slot} {left top r : ℕ} (undo : List ℕ) (t : Highest ss left top 64 r) where
   -- rest is what is left behind without slot r
-  module _ {one rest : ℕ} (l : r < 64) (eo : one ≡ set_of (λ k. has 0 k || eqb k r)) (er : rest ≡ set_of (λ k. has left k && not (has one k))) where
+  module _ {one rest : ℕ} (eo : one ≡ set_of (λ k. has 0 k || eqb k r)) (er : rest ≡ set_of (λ k. has left k && not (has one k))) where
     but_one : (j : ℕ) → j < 64 → has rest j ≡ (has left j && not (eqb j r))
     but_one j k =
         let only : has one j ≡ eqb j r = has_of (λ k. has 0 k || eqb k r) one j eo k ∙ rw (has_none j) in
@@ -67,9 +62,7 @@ module _ {ss : List Slot} {ns : List ℕ} (numbers : NumbersOf ss ns) {left top 
 
     pub highest_back : (block : List ℕ) → back_down ss (has left) undo 0 top block ≡ back_down ss (has rest) undo 0 top (taken_back ss undo r block)
     highest_back block =
-        highest_first ss (has left) (has rest) undo r (t.in_left l)
-        (λ j k p e. t.lowest l j k p (numbers.same j (omega arith) ∙ e ∙ sym (numbers.same r l)))
-        but_one top block l (let e = numbers.same r l in let h = t.low l in omega arith) (λ j k p b. (top_number j k p b).1)
+        highest_first ss (has left) (has rest) undo r t.in_left (λ j k p e. t.lowest j k p e) but_one top block t.within t.low t.high
 
     pub rest_lt : rest < 2 ^ 64
     rest_lt = rw er (set_lt _)
@@ -78,9 +71,9 @@ module _ {ss : List Slot} {ns : List ℕ} (numbers : NumbersOf ss ns) {left top 
     rest_less ll =
         size_less rest left rest_lt ll
         (λ j h. (and-true (has left j) _ (sym (but_one j (has_slot rest j rest_lt h)) ∙ h)).0)
-        (λ e. clash (t.in_left l) (sym (ap (λ (x : ℕ). has x r) e) ∙ but_one r l ∙ rw (eq-eqb r r refl) (and-false (has left r))))
+        (λ e. clash t.in_left (sym (ap (λ (x : ℕ). has x r) e) ∙ but_one r t.within ∙ rw (eq-eqb r r refl) (and-false (has left r))))
 
-  pub none_back : (block : List ℕ) → 64 ≤ r → back_down ss (has left) undo 0 top block ≡ block
-  unfolding back_down
-  none_back block l =
-      numbers_nowhere ss (has left) undo 0 0 top block (omega arith) (λ j k p a b. let z = top_number j k p (omega arith) in omega arith)
+pub none_back : (ss : List Slot) (left top : ℕ) (undo : List ℕ) → HighestOr ss left top 64 None → (block : List ℕ)
+    → back_down ss (has left) undo 0 top block ≡ block
+unfolding back_down
+none_back ss left top undo t block = numbers_nowhere ss (has left) undo 0 0 top block (omega arith) (λ j k p a b. t j k p (omega arith))

@@ -1,71 +1,51 @@
 // The block handed out: the working block, with each patch left behind taken back from its room,
 // highest number first. Taken back in any other order, overlapping patches would leave new bytes.
-ghost use Rattle.std.specs.Prelude.{◌+◌, ◌<◌, ◌≡◌};
+ghost use Rattle.std.specs.Prelude.{◌≡◌};
 ghost use Rattle.spans.specs.Spans.{splice, part};
-ghost use Rattle.rules.specs.Sizes.{room_start, slots};
+ghost use Rattle.rules.specs.Sizes.{room_start};
 ghost use Rattle.rules.specs.Slots.{room_of};
 ghost use Rattle.rules.specs.Write.{back_down};
 ghost use Rattle.masks.specs.Sets.{has};
-ghost use Rattle.send.specs.Back.{Best};
+ghost use Rattle.send.specs.Back.{HighestOr};
 ghost use Rattle.send.specs.Handed.{handed, staying};
 
 use rules::Slot;
-use rules::sizes::{BLOCK_BYTES, LAST_SLOT, ROOM_BYTES, SLOTS};
-use slots::walks::numbers_of;
+use rules::sizes::{BLOCK_BYTES, ROOM_BYTES, SLOTS};
 use slots::words::room_of;
 
-// Slot i against the best so far (64: none yet): the higher number, if it is below `top`, and of
-// two with the same number the lower slot.
-fn better(numbers: &[u32; SLOTS], left: u64, top: u32, best: usize, i: usize) -> usize
-    requires { (i < slots) × Best numbers.now left top i best }
-    ensures { Best numbers.now left top (i + 1) result }
+// Of the slots of `left`, the lowest with the highest number below `top`. (`max_by_key` takes the last
+// of several that are highest.)
+fn highest(slots: &[Slot; SLOTS], left: u64, top: u32) -> Option<usize>
+    ensures { HighestOr slots.now left top 64 result }
 {
-    if !masks::has(left, i) {
-        return best;
-    }
-    let n = numbers[i];
-    if top <= n {
-        return best;
-    }
-    if LAST_SLOT < best {
-        return i;
-    }
-    if numbers[best] < n { i } else { best }
-}
-
-// Of the slots of `left`, the lowest with the highest number below `top`; 64 where there is none.
-fn highest(numbers: &[u32; SLOTS], left: u64, top: u32) -> usize
-    ensures { Best numbers.now left top slots result }
-{
-    let mut best = SLOTS;
-    for i in 0..SLOTS {
-        best = better(numbers, left, top, best, i);
+    let mut best: Option<usize> = None;
+    for (i, s) in slots.iter().enumerate() {
+        if masks::has(left, i)
+            && s.number < top
+            && best.is_none_or(|b| slots[b].number < s.number)
+        {
+            best = Some(i);
+        }
     }
     best
 }
 
 // The patch of slot s taken back.
-fn take_back(out: &mut [u8], undo: &[u8], s: Slot)
-    ensures { out.new ≡ splice out.old s.offset (part undo.now (room_start (room_of s.state)) s.len) }
+fn take_back(out: &mut [u8], undo: &[u8], s: &Slot)
+    ensures { out.new ≡ splice out.old s.now.offset (part undo.now (room_start (room_of s.now.state)) s.now.len) }
 {
-    let u = s.state;
-    let from = (room_of(u) as usize) * ROOM_BYTES;
+    let from = room_of(s.state) as usize * ROOM_BYTES;
     spans::copy(out, s.offset as usize, undo, from, s.len as usize);
 }
 
-// All patches of `left` with a number below `top` taken back. The numbers are gathered once and
-// lent to each search.
-fn take_all_back(out: &mut [u8], undo: &[u8], slots: [Slot; SLOTS], left: u64, top: u32)
-    ensures { out.new ≡ back_down slots (has left) undo.now 0 top out.old }
+// All patches of `left` with a number below `top` taken back.
+fn take_all_back(out: &mut [u8], undo: &[u8], slots: &[Slot; SLOTS], left: u64, top: u32)
+    ensures { out.new ≡ back_down slots.now (has left) undo.now 0 top out.old }
 {
-    let numbers = numbers_of(slots);
     let mut rest = left;
-    let mut i = highest(&numbers, rest, top);
-    while i < SLOTS {
-        let s = slots[i];
-        take_back(out, undo, s);
+    while let Some(i) = highest(slots, rest, top) {
+        take_back(out, undo, &slots[i]);
         rest = masks::without(rest, masks::with(0, i));
-        i = highest(&numbers, rest, top);
     }
 }
 
@@ -77,13 +57,12 @@ pub fn hand_out(
     undo: &[u8],
     block: u32,
     next: u32,
-    slots: [Slot; SLOTS],
+    slots: &[Slot; SLOTS],
     waiting: u64,
     set: u64,
 )
-    ensures { out.new ≡ handed slots (staying waiting set) block next image.now undo.now out.old }
+    ensures { out.new ≡ handed slots.now (staying waiting set) block next image.now undo.now out.old }
 {
-    spans::copy(out, 0, image, (block as usize) * BLOCK_BYTES, BLOCK_BYTES);
-    let left = masks::without(waiting, set);
-    take_all_back(out, undo, slots, left, next);
+    spans::copy(out, 0, image, block as usize * BLOCK_BYTES, BLOCK_BYTES);
+    take_all_back(out, undo, slots, masks::without(waiting, set), next);
 }

@@ -8,29 +8,25 @@ use rules::Slot;
 use rules::sizes::SLOTS;
 use slots::types::Patches;
 
-pub fn largest(slots: [Slot; SLOTS], on: Patches) -> u64
-    ensures { result ≡ searched slots on.hard on.waiting }
+// The loop with its label and its `break` with a value is a form that document 01 names by place.
+pub fn largest(slots: &[Slot; SLOTS], on: Patches) -> u64
+    ensures { result ≡ searched slots.now on.hard on.waiting }
 {
-    let hard = on.hard;
     let mut began = on.waiting;
-    let set = loop {
+    loop {
         let mut kept = began;
-        'walk: for i in 0..SLOTS {
-            if masks::has(began, i) {
-                let s = slots[i];
-                if !masks::within(s.befores, began) {
-                    if masks::has(hard, i) {
-                        kept = 0;
-                        break 'walk;
-                    }
-                    kept = masks::without(kept, masks::with(0, i));
+        'walk: for (i, s) in slots.iter().enumerate() {
+            if masks::has(began, i) && !masks::within(s.befores, began) {
+                if masks::has(on.hard, i) {
+                    kept = 0;
+                    break 'walk;
                 }
+                kept = masks::without(kept, masks::with(0, i));
             }
         }
         if kept == began {
             break kept;
         }
         began = kept;
-    };
-    set
+    }
 }

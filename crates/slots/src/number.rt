@@ -7,11 +7,5 @@ ghost use Rattle.rules.specs.Table.{Issued};
 pub fn is_issued(next: u32, number: u32) -> bool
     ensures { Decides (Issued next number) result }
 {
-    if number == 0 {
-        return false;
-    }
-    if next <= number {
-        return false;
-    }
-    true
+    (1..next).contains(&number)
 }

@@ -1,39 +1,11 @@
-// One slot with another state, one with other befores, and a free one.
+// A free slot.
 ghost use Rattle.std.specs.Prelude.{◌≡◌};
-ghost use Rattle.rules.specs.Slots.{with_state, with_befores, free_slot};
+ghost use Rattle.rules.specs.Slots.{free_slot};
 
-use rules::{Slot, State};
-
-pub fn with_state(s: Slot, state: State) -> Slot
-    ensures { result ≡ with_state state s }
-{
-    Slot {
-        state,
-        number: s.number,
-        block: s.block,
-        offset: s.offset,
-        len: s.len,
-        befores: s.befores,
-    }
-}
-
-pub fn with_befores(s: Slot, befores: u64) -> Slot
-    ensures { result ≡ with_befores befores s }
-{
-    let mut next = s;
-    next.befores = befores;
-    next
-}
+use rules::Slot;
 
 pub fn free() -> Slot
     ensures { result ≡ free_slot }
 {
-    Slot {
-        state: State::Free,
-        number: 0,
-        block: 0,
-        offset: 0,
-        len: 0,
-        befores: 0,
-    }
+    Slot::default()
 }

@@ -1,35 +1,28 @@
-// Walks over the 64 slots: the slot of a number, and the numbers alone.
-ghost use Rattle.slots.specs.Walks.{Found, NumbersOf};
+// Walks over the 64 slots: the slot of a number, and the set of the slots that pass a test.
+ghost use Rattle.std.specs.Fn.{FnReturnsAt};
+ghost use Rattle.slots.specs.Walks.{Found, SetWhere};
 
 use crate::words::is_used;
 use rules::Slot;
 use rules::sizes::SLOTS;
 
-// The lowest slot in use that has the number; 64 where there is none.
-pub fn find(slots: [Slot; SLOTS], number: u32) -> usize
-    ensures { Found slots number result }
+// The lowest slot in use that has the number.
+pub fn find(slots: &[Slot; SLOTS], number: u32) -> Option<usize>
+    ensures { Found slots.now number result }
 {
-    for i in 0..SLOTS {
-        let s = slots[i];
-        if s.number == number {
-            let u = s.state;
-            if is_used(u) {
-                return i;
-            }
-        }
-    }
-    64
+    slots
+        .iter()
+        .position(|s| s.number == number && is_used(s.state))
 }
 
-// The numbers of the slots. They can be lent, where an array of slots is copied at each call: a
-// walk that compares numbers gathers them first.
-pub fn numbers_of(slots: [Slot; SLOTS]) -> [u32; SLOTS]
-    ensures { NumbersOf slots result }
+// The set of the slots that pass the test.
+pub fn set_where<F: Fn(&Slot) -> bool>(slots: &[Slot; SLOTS], test: F) -> u64
+    requires { F.IsAlwaysCallable test }
+    ensures { SetWhere (FnReturnsAt F.Fn test) slots.now result }
 {
-    let mut numbers: [u32; SLOTS] = [0; SLOTS];
-    for i in 0..SLOTS {
-        let s = slots[i];
-        numbers[i] = s.number;
+    let mut set = 0;
+    for (i, s) in slots.iter().enumerate() {
+        set = masks::with_if(set, i, test(s));
     }
-    numbers
+    set
 }

@@ -2,10 +2,13 @@
 -- use: the two directions from what the loop shows of each slot to Sound, which speaks of all. Assumes nothing.
 use Prim.Native.Nat.{ℕ, ◌<◌}
 use mathlib.Core.Path.{◌≡◌, refl, sym, ◌∙◌, subst}
-use mathlib.Core.Bool.{Bool, true, ◌&&◌}
+use mathlib.Core.Bool.{Bool, true, false, ◌&&◌}
 use mathlib.Core.List.{List}
 use native.Mathlib.Decide.{dec_lt}
 use native.Mathlib.Omega.{arith}
+use Rattle.std.specs.Prelude.{None}
+use Rattle.std.specs.Bool.{then_some}
+use Rattle.std.proofs.lemmas.Option.{none-some, same_Some}
 use Rattle.masks.specs.Sets.{has, set_of, within}
 use Rattle.ground.proofs.Decided.{and-true, true_and}
 use Rattle.masks.proofs.Laws.{has_of, within_at, at_within}
@@ -14,10 +17,10 @@ use Rattle.rules.specs.declared.Slot.{Slot}
 use Rattle.rules.specs.Sizes.{slots}
 use Rattle.rules.specs.Settings.{rooms}
 use Rattle.rules.specs.Table.{Sound, table_of, used, slot_at, HasRoom}
-use Rattle.sound.specs.SlotSound.{HeaderInRange, Alone, unsound}
-use Rattle.sound.specs.declared.types.Verdict.{Verdict}
+use Rattle.sound.specs.SlotSound.{HeaderInRange, Alone}
 use Rattle.slots.specs.Walks.{Carries}
-use Rattle.sound.specs.Verdict.{IsVerdict}
+use Rattle.sound.specs.declared.types.InUse.{InUse}
+use Rattle.sound.specs.Verdict.{IsVerdict, SoundWith}
 use Rattle.rules.proofs.Rooms.{some_room}
 use Rattle.rules.proofs.Words.{room_is, room_below, has_room_used}
 use Rattle.sound.proofs.Gathered.{gathered, gathered_all, gathered_only}
@@ -102,7 +105,17 @@ module _ {g : Setting} {first next n : ℕ} {ss : List Slot} (has-rooms : n ≡ 
           below_same {P = λ i j. HasRoom ss i r × HasRoom ss j r} (λ i j l b h. (t i l).room j r b h.0 h.1) (λ i j h. (h.1, h.0)) i j l k (e, f);
     }
 
--- the verdict on a table that is not sound
-pub not_sound : {g : Setting} {first next : ℕ} {ss : List Slot} {v : Verdict} → v ≡ unsound → (Sound (table_of g first next ss) → ⊥)
-    → IsVerdict g first next ss v
-not_sound {g} {first} {next} {ss} e n = subst (IsVerdict g first next ss) (sym e) (record { decides = n; used_slots = refl; taken-rooms = refl })
+module _ {g : Setting} {first next : ℕ} {ss : List Slot} where
+  -- the verdict on a table that is not sound
+  pub not_sound : (Sound (table_of g first next ss) → ⊥) → IsVerdict g first next ss None
+  not_sound n = record { unsound = λ e. n; sound = λ u e. absurd (none-some u e) }
+
+  -- the same where a slot fails the tests
+  pub fails : {n i : ℕ} → n ≡ rooms g → i < slots → (Tested first next n ss i → ⊥) → IsVerdict g first next ss None
+  fails has-rooms l n = not_sound (λ s. n (sound_tested has-rooms s _ l))
+
+  -- the verdict where all the slots are passed
+  pub judged : {u : InUse} (b : Bool) → (b ≡ true → SoundWith g first next ss u) → (b ≡ false → Sound (table_of g first next ss) → ⊥)
+      → IsVerdict g first next ss (then_some b u)
+  judged {u} true f n = record { unsound = λ e. absurd (none-some u (sym e)); sound = λ v e. subst (SoundWith g first next ss) (same_Some u v e) (f refl) }
+  judged false f n = not_sound (n refl)

@@ -1,11 +1,11 @@
 -- Inside this crate, need not be believed: what the private tests of `judge` decide, of one slot and of its number among others. No public promise cites
 -- this file: those cite Sound of `rules`.
-use Rattle.std.specs.Prelude.{ℕ, ◌+◌, ◌/◌, ◌%◌, ◌≤◌, ◌<◌, ◌≡◌, Bool, true, false, List, length, get_or}
+use Rattle.std.specs.Prelude.{ℕ, ◌+◌, ◌/◌, ◌%◌, ◌≤◌, ◌<◌, ◌≡◌, Bool, true, List, length, get_or}
 use Rattle.masks.specs.Sets.{has}
 use Rattle.rules.specs.declared.Slot.{Slot}
 use Rattle.rules.specs.Slots.{room_of}
-use Rattle.sound.specs.declared.types.Verdict.{Verdict}
-use Rattle.rules.specs.Sizes.{blocks, block_bytes, most_bytes, last_number}
+use Rattle.slots.specs.Walks.{Carries}
+use Rattle.rules.specs.Sizes.{slots, blocks, block_bytes, most_bytes, last_number}
 
 -- first is 1 to 1,000,000,000; next is from first to 1,000,000,001
 pub record HeaderInRange (first next : ℕ) : Type 0 where
@@ -29,6 +29,10 @@ pub record Alone (first next n i : ℕ) (s : Slot) : Type 0 where
   pub befores_other : has s.befores i ≡ true → ⊥
   pub room_most : room_of s.state < n
 
+-- the number n comes again in slot i: a slot below is in use with it
+abbrev pub ComesAgain : List Slot → ℕ → ℕ → Type 0
+ComesAgain ss n i = (j : ℕ) × (j < slots) × (j < i) × Carries ss n j
+
 -- the mark of the number n is among the marks ms: it is chosen by the ten lowest binary digits of n
 abbrev pub marked : List ℕ → ℕ → Bool
 marked ms n = has (get_or ms (n / 64 % 16) 0) (n % 64)
@@ -39,7 +43,3 @@ pub record Marking (ms : List ℕ) (n : ℕ) (r : Bool) (ms' : List ℕ) : Type 
   pub size : length ms' ≡ length ms
   pub is : marked ms' n ≡ true
   pub kept : (k : ℕ) → marked ms k ≡ true → marked ms' k ≡ true
-
--- the verdict on a table that is not sound
-abbrev pub unsound : Verdict
-unsound = record { sound = false; used = 0; rooms = 0 }

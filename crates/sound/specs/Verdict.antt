@@ -1,15 +1,19 @@
 -- Between crates, need not be believed: what the verdict on a table says, in the words of `rules`.
-use Rattle.std.specs.Prelude.{ℕ, ◌≡◌, cond, List}
-use Rattle.ground.specs.Decides.{Decides}
+use Rattle.std.specs.Prelude.{ℕ, ◌≡◌, List, Option, Some, None}
 use Rattle.masks.specs.Sets.{set_of}
 use Rattle.rules.specs.declared.Setting.{Setting}
 use Rattle.rules.specs.declared.Slot.{Slot}
 use Rattle.rules.specs.Table.{Sound, table_of, used}
 use Rattle.slots.specs.Walks.{taken_rooms}
-use Rattle.sound.specs.declared.types.Verdict.{Verdict}
+use Rattle.sound.specs.declared.types.InUse.{InUse}
 
--- v says whether the table is sound, which slots are in use and which rooms are taken; of a table that is not sound it says no slot and no room
-pub record IsVerdict (g : Setting) (first next : ℕ) (ss : List Slot) (v : Verdict) : Type 0 where
-  pub decides : Decides (Sound (table_of g first next ss)) v.sound
-  pub used_slots : v.used ≡ cond v.sound (set_of (used ss)) 0
-  pub taken-rooms : v.rooms ≡ cond v.sound (taken_rooms ss) 0
+-- the table is sound, and u says which slots are in use and which rooms are taken
+pub record SoundWith (g : Setting) (first next : ℕ) (ss : List Slot) (u : InUse) : Type 0 where
+  pub sound : Sound (table_of g first next ss)
+  pub used_slots : u.used ≡ set_of (used ss)
+  pub taken-rooms : u.rooms ≡ taken_rooms ss
+
+-- the verdict v is None just where the table is not sound; of one that is it says which slots are in use and which rooms are taken
+pub record IsVerdict (g : Setting) (first next : ℕ) (ss : List Slot) (v : Option InUse) : Type 0 where
+  pub unsound : v ≡ None → Sound (table_of g first next ss) → ⊥
+  pub sound : (u : InUse) → v ≡ Some u → SoundWith g first next ss u

@@ -4,57 +4,20 @@
 #![tactic(auto)]
 
 mod append;
-mod changes;
 mod circle;
 mod counts;
-mod say;
+mod files;
+mod words;
 
-use changes::MANY;
 use rules::Setting;
-use rules::sizes::UNDO_BYTES;
 use std::io;
 
 fn main(rt: HostRuntime) -> io::Result<()> {
-    let mut few = [7u8; UNDO_BYTES];
-    let mut many = [7u8; MANY];
-    say::text(&rt, b"Figure 3: a file grows by four blocks\n")?;
-    append::run(
-        &rt,
-        Setting::AllSoft,
-        b"every patch soft, no joining",
-        &mut few,
-        &mut many,
-    )?;
-    append::run(
-        &rt,
-        Setting::HardRule,
-        b"the hard rule, no joining",
-        &mut few,
-        &mut many,
-    )?;
-    append::run(
-        &rt,
-        Setting::Board,
-        b"the board's setting",
-        &mut few,
-        &mut many,
-    )?;
-    say::text(
-        &rt,
-        b"\nFigure 2b: a file is removed before that has committed\n",
-    )?;
-    circle::run(
-        &rt,
-        Setting::HardRule,
-        b"the hard rule, no joining",
-        &mut few,
-        &mut many,
-    )?;
-    circle::run(
-        &rt,
-        Setting::Board,
-        b"the board's setting",
-        &mut few,
-        &mut many,
-    )
+    println!(rt; "Figure 3: a file grows by four blocks")?;
+    for setting in [Setting::AllSoft, Setting::HardRule, Setting::Board] {
+        append::run(&rt, setting)?;
+    }
+    println!(rt; "\nFigure 2b: a file is removed before that has committed")?;
+    circle::run(&rt, Setting::HardRule)?;
+    circle::run(&rt, Setting::Board)
 }

@@ -7,6 +7,7 @@ use mathlib.Core.List.{List, [], ◌∷◌, ◌++◌}
 use native.Mathlib.Nat.{suc-add, zero-add, sub-zero, suc-sub-suc}
 use native.Mathlib.Omega.{arith}
 use lib.ListN.{length, get_or, set, take, length-take, length-drop}
+use borrow.Rule.Slice.PartMut.{put_mid}
 use lib.Seq.{take-nil, take-length, get_or-take, get_or-drop}
 use Rattle.spans.specs.Spans.{splice, part}
 
@@ -59,16 +60,18 @@ splice_whole [] (y ∷ ys) e = absurd (omega arith)
 splice_whole (x ∷ xs) [] e = absurd (omega arith)
 splice_whole (x ∷ xs) (y ∷ ys) e = ap (λ (r : List ℕ). y ∷ r) (splice_whole xs ys (omega arith))
 
--- one byte more laid after the first j
-pub splice_more : (xs : List ℕ) (at : ℕ) (ys : List ℕ) (j : ℕ) → j < length ys
-    → set (splice xs at (take j ys)) (at + j) (get_or ys j 0) ≡ splice xs at (take (suc j) ys)
+-- a part of xs written anew is ys laid over it
+pub splice_part : (xs : List ℕ) (at k : ℕ) (ys : List ℕ) → k ≡ length ys → at + k ≤ length xs → put_mid at k xs ys ≡ splice xs at ys
 unfolding splice
-splice_more [] at ys j l = refl
-splice_more (x ∷ xs) (suc at) ys j l = rw (suc-add at j) (ap (λ (r : List ℕ). x ∷ r) (splice_more xs at ys j l))
-splice_more (x ∷ xs) zero [] j l = absurd (omega arith)
-splice_more (x ∷ xs) zero (y ∷ ys) zero l = ap (λ (r : List ℕ). y ∷ r) (sym (splice_none xs zero))
-splice_more (x ∷ xs) zero (y ∷ ys) (suc j) l =
-    rw (zero-add (suc j)) (ap (λ (r : List ℕ). y ∷ r) (rw (zero-add j) at (splice_more xs zero ys j (omega arith))))
+splice_part [] zero zero [] e l = refl
+splice_part [] zero zero (y ∷ ys) e l = absurd (omega arith)
+splice_part [] zero (suc k) ys e l = absurd (omega arith)
+splice_part [] (suc at) k ys e l = absurd (omega arith)
+splice_part (x ∷ xs) (suc at) k ys e l = ap (λ (r : List ℕ). x ∷ r) (splice_part xs at k ys e (omega arith))
+splice_part (x ∷ xs) zero zero [] e l = refl
+splice_part (x ∷ xs) zero zero (y ∷ ys) e l = absurd (omega arith)
+splice_part (x ∷ xs) zero (suc k) [] e l = absurd (omega arith)
+splice_part (x ∷ xs) zero (suc k) (y ∷ ys) e l = ap (λ (r : List ℕ). y ∷ r) (splice_part xs zero k ys (omega arith) (omega arith))
 
 -- of n bytes those that are there and that find room are as good as all n
 pub splice_fitting : (xs : List ℕ) (at : ℕ) (ys : List ℕ) (m n : ℕ) → m ≡ min (min n (length ys)) (length xs - at)

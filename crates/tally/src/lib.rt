@@ -3,102 +3,58 @@
 #![tactic(auto)]
 
 ghost use Rattle.std.specs.Prelude.{◌≡◌, cond, ◌&&◌, eqb};
-ghost use Rattle.masks.specs.Sets.{has};
-ghost use Rattle.rules.specs.Slots.{is_used, is_in_flight};
+ghost use Rattle.rules.specs.Slots.{is_used};
 ghost use Rattle.tally.specs.Counts.{plus, one_more, carried, cleared, cut_landing};
 
 use rules::sizes::SLOTS;
 use rules::{Slot, State};
+use slots::walks::set_where;
 use slots::words::is_used;
 
 // A sum that stays at its most.
+#[tactic(auto, unfolding(crate::specs::Counts::plus))]
 pub fn plus(a: u64, b: u64) -> u64
     ensures { result ≡ plus a b }
 {
-    if u64::MAX - a < b {
-        return u64::MAX;
-    }
-    a + b
+    a.saturating_add(b)
 }
 
 // The changes of a slot, n before, with one more where it holds the patch with the number.
 fn one_more_in(s: Slot, number: u32, n: u64) -> u64
     ensures { result ≡ cond (is_used s.state && eqb s.number number) (plus n 1) n }
 {
-    let u = s.state;
-    if !is_used(u) {
-        return n;
-    }
-    if s.number != number {
-        return n;
-    }
-    plus(n, 1)
-}
-
-pub fn one_more(slots: [Slot; SLOTS], number: u32, changes: [u64; SLOTS]) -> [u64; SLOTS]
-    ensures { result ≡ one_more slots number changes }
-{
-    let mut next: [u64; SLOTS] = [0; SLOTS];
-    for i in 0..SLOTS {
-        let s = slots[i];
-        next[i] = one_more_in(s, number, changes[i]);
-    }
-    next
-}
-
-// The n changes of slot i where it is in the set.
-fn carried_in(set: u64, i: usize, n: u64) -> u64
-    ensures { result ≡ cond (has set i) n 0 }
-{
-    if masks::has(set, i) { n } else { 0 }
-}
-
-pub fn carried(changes: [u64; SLOTS], set: u64) -> u64
-    ensures { result ≡ carried changes set }
-{
-    let mut sum: u64 = 0;
-    for i in 0..SLOTS {
-        sum = plus(sum, carried_in(set, i, changes[i]));
-    }
-    sum
-}
-
-// The n changes of slot i where it is not in the set.
-fn cleared_in(set: u64, i: usize, n: u64) -> u64
-    ensures { result ≡ cond (has set i) 0 n }
-{
-    if masks::has(set, i) { 0 } else { n }
-}
-
-pub fn cleared(changes: [u64; SLOTS], set: u64) -> [u64; SLOTS]
-    ensures { result ≡ cleared changes set }
-{
-    let mut next: [u64; SLOTS] = [0; SLOTS];
-    for i in 0..SLOTS {
-        next[i] = cleared_in(set, i, changes[i]);
-    }
-    next
-}
-
-// Whether a slot is in flight on a block whose bit is set.
-fn lands(s: Slot, bits: u64) -> bool
-    ensures { result ≡ (is_in_flight s.state && has bits s.block) }
-{
-    let u = s.state;
-    match u {
-        State::Free => false,
-        State::Waiting(_) => false,
-        State::InFlight(_) => masks::has(bits, s.block as usize),
+    if is_used(s.state) && s.number == number {
+        plus(n, 1)
+    } else {
+        n
     }
 }
 
-pub fn cut_landing(slots: [Slot; SLOTS], bits: u64) -> u64
-    ensures { result ≡ cut_landing slots bits }
+pub fn one_more(slots: &[Slot; SLOTS], number: u32, changes: &[u64; SLOTS]) -> [u64; SLOTS]
+    ensures { result ≡ one_more slots.now number changes.now }
 {
-    let mut landed: u64 = 0;
-    for i in 0..SLOTS {
-        let s = slots[i];
-        landed = masks::with_if(landed, i, lands(s, bits));
-    }
-    landed
+    std::array::from_fn(|i| one_more_in(slots[i], number, changes[i]))
+}
+
+pub fn carried(changes: &[u64; SLOTS], set: u64) -> u64
+    ensures { result ≡ carried changes.now set }
+{
+    (0..SLOTS)
+        .filter(|&i| masks::has(set, i))
+        .fold(0, |sum, i| plus(sum, changes[i]))
+}
+
+pub fn cleared(changes: &[u64; SLOTS], set: u64) -> [u64; SLOTS]
+    ensures { result ≡ cleared changes.now set }
+{
+    std::array::from_fn(|i| if masks::has(set, i) { 0 } else { changes[i] })
+}
+
+pub fn cut_landing(slots: &[Slot; SLOTS], bits: u64) -> u64
+    ensures { result ≡ cut_landing slots.now bits }
+{
+    set_where(
+        slots,
+        |s| matches!(s.state, State::InFlight(_)) && masks::has(bits, s.block as usize),
+    )
 }

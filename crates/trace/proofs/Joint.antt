@@ -5,27 +5,25 @@ use mathlib.Core.Bool.{true}
 use mathlib.Core.List.{List, [], ◌∷◌}
 use mathlib.Core.Logic.{inl, inr, ⊎_elim}
 use lib.ListN.{length}
-use Rattle.rules.specs.declared.WriteAnswer.{WriteAnswer}
-use Rattle.rules.specs.declared.WriteAnswer.TheVariants as write
+use Rattle.std.specs.Prelude.{Result, Ok, Err}
+use Rattle.rules.specs.declared.refusals.Refusal.{Refusal}
 use Rattle.rules.specs.Sizes.{block_bytes}
 use Rattle.rules.specs.Table.{Table}
 use Rattle.rules.proofs.Cases.{as_is, as_well, none_differs, first_alike}
-use Rattle.rules.specs.Calls.{plain_number, write_number, sent_set, Writing, Writes, write_refused, write_granted, Completion, Completes}
+use Rattle.rules.specs.Calls.{answer_number, sent_set, Writing, Writes, write_granted, Completion, Completes}
 use Rattle.rules.specs.Joint.{Joint, CompletesWrites, joint_stopped, joint_went}
-use Rattle.rules.proofs.Joint.{tried_number}
 use Rattle.records.specs.Record.{Call, completes}
-use Rattle.records.specs.Writer.{calls_made}
 use Rattle.records.proofs.CallsMade.{both_made, one_made}
 use Rattle.trace.specs.declared.types.Phase.TheVariants as phase
 use Rattle.trace.specs.Run.{Run, is_in_order, blank, after_write, after_complete, Makes}
-use Rattle.trace.specs.Joint.{MakesAll, with_second, JointReplays, JointReplayed}
+use Rattle.trace.specs.Joint.{MakesAll, JointReplays, JointReplayed}
 
 -- ---- what the lent block held matters to no answer and no table
 
 -- the same writing on the other block: a refusal leaves that, a grant writes it whole
-abbrev block_after : List ℕ → WriteAnswer → List ℕ → List ℕ
-block_after other (write.Granted s) block = block
-block_after other (write.Refused k) block = other
+abbrev block_after : List ℕ → Result ℕ Refusal → List ℕ → List ℕ
+block_after other (Ok s) block = block
+block_after other (Err r) block = other
 
 abbrev on_other : List ℕ → Writing → Writing
 on_other other w = record { answer = w.answer; table = w.table; image = w.image; undo = w.undo; block = block_after other w.answer w.block }
@@ -37,7 +35,7 @@ other_block {t} {image} {undo} {lent} {b} other sized w p = record {
       (as_well (⊎_elim inl (λ z. inr (⊎_elim inl (λ d. inr (λ e. d (sized ∙ e))) z))) (⊎_elim inl (λ z. inr (⊎_elim inl (λ d. inr (λ e. d (sym sized ∙ e))) z)))
       (as_is (as_is (as_is (as_is (as_is none_differs))))))
       p.first;
-  refusal = λ d. subst (λ (v : Writing). on_other other v ≡ write_refused t image undo other (write_number v.answer)) (sym (p.refusal d)) refl;
+  refusal = λ d. let r = p.refusal d in (r.0, ap (on_other other) r.1);
   grant = λ z. let g = p.grant z in record {
     largest = g.largest;
     whole = subst (λ (v : Writing). on_other other v ≡ write_granted t image undo b (sent_set v.answer)) (sym g.whole) refl;
@@ -51,29 +49,27 @@ module _ (r : Run) (x y : ℕ) (lent : List ℕ) (opened : r.phase ≡ phase.Ope
   completes_now : is_in_order r.phase (completes x) ≡ true
   completes_now = rw opened
 
-  stopped : (c : Completion) → Completes r.table x c → (plain_number c.answer ≡ 0 → ⊥) → JointReplays r x y (joint_stopped c r.image r.undo lent)
+  stopped : (c : Completion) → Completes r.table x c → (answer_number c.answer ≡ 0 → ⊥) → JointReplays r x y (joint_stopped c r.image r.undo lent)
   stopped c p n = record {
     run = (after_complete r x c).run;
-    made = subst (λ (cs : List Call). MakesAll r cs (after_complete r x c).run (plain_number c.answer ∷ [])) (sym (one_made x y (plain_number c.answer) n))
+    made = subst (λ (cs : List Call). MakesAll r cs (after_complete r x c).run (answer_number c.answer ∷ [])) (sym (one_made x y (answer_number c.answer) n))
         (MakesAll.and_more completes_now (Makes.makes_complete c p) MakesAll.none_left);
     table = refl;
     image = refl;
     undo = refl;
   }
 
-  went : (c : Completion) → Completes r.table x c → plain_number c.answer ≡ 0 → (w : Writing) → Writes c.table r.image r.undo lent y w
+  went : (c : Completion) → Completes r.table x c → answer_number c.answer ≡ 0 → (w : Writing) → Writes c.table r.image r.undo lent y w
       → JointReplays r x y (joint_went c w)
   went c p z w q =
       let then = (after_complete r x c).run in
-      let number = plain_number c.answer in
+      let number = answer_number c.answer in
       let v = on_other blank w in
       let wrote = Makes.makes_write v (other_block blank sized w q) in
       record {
         run = (after_write then v).run;
-        made = subst (λ (said : List ℕ). MakesAll r (calls_made number x y) (after_write then v).run (number ∷ said))
-            (sym (ap with_second (tried_number w.answer)))
-            (subst (λ (cs : List Call). MakesAll r cs (after_write then v).run (number ∷ (write_number w.answer ∷ []))) (sym (both_made x y number z))
-            (MakesAll.and_more completes_now (Makes.makes_complete c p) (MakesAll.and_more refl wrote MakesAll.none_left)));
+        made = subst (λ (cs : List Call). MakesAll r cs (after_write then v).run (number ∷ (answer_number w.answer ∷ []))) (sym (both_made x y number z))
+            (MakesAll.and_more completes_now (Makes.makes_complete c p) (MakesAll.and_more refl wrote MakesAll.none_left));
         table = refl;
         image = refl;
         undo = refl;

@@ -18,8 +18,8 @@ use Rattle.rules.specs.Table.{Table, slot_at, Sound, Issued}
 use Rattle.rules.specs.Create.{Change, is_in, patch, accepted, joined}
 use Rattle.rules.specs.Write.{sent}
 use Rattle.rules.specs.Complete.{landing, completed}
-use Rattle.rules.specs.Calls.{plain_number, Opening, Opens, create_number, Creation, Creates, Accepts, Takes, JoinsOne}
-use Rattle.rules.specs.Calls.{write_number, Writing, Writes, sent_set, Completion, Completes}
+use Rattle.rules.specs.Calls.{answer_number, Opening, Opens, Creation, Creates, Accepts, Takes, JoinsOne}
+use Rattle.rules.specs.Calls.{answer_number, Writing, Writes, sent_set, Completion, Completes}
 use Rattle.rules.proofs.StaysSound.{opened_sound}
 use Rattle.rules.proofs.Words.{waits_on_used}
 use Rattle.rules.proofs.SoundCalls.{open_sound, create_sound, write_sound, complete_sound}
@@ -128,7 +128,7 @@ module _ {r : Run} {ns : List ℕ} (told : Told r ns) where
       (λ m e i k. joined_holds t.slots c g.slot m i k))
 
   create_told : {c : Change} (o : Creation) → Creates t r.image r.undo c o → ToldBy ns (after_create r o)
-  create_told {c} o p = go (ℕ_discrete (create_number o.answer) 0)
+  create_told {c} o p = go (ℕ_discrete (answer_number o.answer) 0)
     where
       sound : Sound o.table
       sound = create_sound t r.image r.undo c o told.sound p
@@ -137,19 +137,19 @@ module _ {r : Run} {ns : List ℕ} (told : Told r ns) where
       granted (Accepts.takes own g) = takes_told o sound g
       granted (Accepts.joins j g) = joins_told o sound g
 
-      go : Dec (create_number o.answer ≡ 0) → ToldBy ns (after_create r o)
-      go (no d) = subst (λ (x : Creation). ToldBy ns (after_create r x)) (sym (p.refusal d)) (stays phase.Opened r.image r.undo (λ n. refl))
+      go : Dec (answer_number o.answer ≡ 0) → ToldBy ns (after_create r o)
+      go (no d) = subst (λ (x : Creation). ToldBy ns (after_create r x)) (sym (p.refusal d).1) (stays phase.Opened r.image r.undo (λ n. refl))
       go (yes z) = granted (p.grant z)
 
   write_told : {b : ℕ} (o : Writing) → Writes t r.image r.undo blank b o → ToldBy ns (after_write r o)
   unfolding sent
-  write_told {b} o p = go (ℕ_discrete (write_number o.answer) 0)
+  write_told {b} o p = go (ℕ_discrete (answer_number o.answer) 0)
     where
       sound : Sound o.table
       sound = write_sound t r.image r.undo blank b o told.sound p
 
-      go : Dec (write_number o.answer ≡ 0) → ToldBy ns (after_write r o)
-      go (no d) = subst (λ (x : Writing). ToldBy ns (after_write r x)) (sym (p.refusal d)) (stays phase.Opened r.image r.undo (λ n. refl))
+      go : Dec (answer_number o.answer ≡ 0) → ToldBy ns (after_write r o)
+      go (no d) = subst (λ (x : Writing). ToldBy ns (after_write r x)) (sym (p.refusal d).1) (stays phase.Opened r.image r.undo (λ n. refl))
       go (yes z) =
           let g = p.grant z in
           let s = sent_set o.answer in
@@ -159,13 +159,13 @@ module _ {r : Run} {ns : List ℕ} (told : Told r ns) where
 
   complete_told : {b : ℕ} (o : Completion) → Completes t b o → ToldBy ns (after_complete r b o)
   unfolding completed
-  complete_told {b} o p = go (ℕ_discrete (plain_number o.answer) 0)
+  complete_told {b} o p = go (ℕ_discrete (answer_number o.answer) 0)
     where
       sound : Sound o.table
       sound = complete_sound t b o told.sound p
 
-      go : Dec (plain_number o.answer ≡ 0) → ToldBy ns (after_complete r b o)
-      go (no d) = subst (λ (x : Completion). ToldBy ns (after_complete r b x)) (sym (p.refusal d)) (stays phase.Opened r.image r.undo (λ n. refl))
+      go : Dec (answer_number o.answer ≡ 0) → ToldBy ns (after_complete r b o)
+      go (no d) = subst (λ (x : Completion). ToldBy ns (after_complete r b x)) (sym (p.refusal d).1) (stays phase.Opened r.image r.undo (λ n. refl))
       go (yes z) = subst (λ (x : Completion). ToldBy ns (after_complete r b x)) (sym (p.grant z)) (record {
         sound = subst (λ (x : Completion). Sound x.table) (p.grant z) sound;
         issued = told.issued;

@@ -5,7 +5,8 @@ use Rattle.rules.specs.Table.{Table}
 use Rattle.rules.specs.Create.{change_of}
 use Rattle.rules.specs.Calls.{Creates}
 use Rattle.cache.specs.declared.types.Table as code
-use Rattle.cache.specs.declared.types.Created.{Created}
+use Rattle.rules.specs.declared.Created.{Created}
+use Rattle.cache.specs.declared.types.Answered.{Answered}
 use Rattle.cache.specs.Seen.{creation}
 use Rattle.records.specs.declared.types.Head.{Head}
 use Rattle.records.specs.declared.types.Found.{Found}
@@ -20,12 +21,16 @@ use Rattle.tally.specs.Counts.{plus}
 use Rattle.trace.specs.Run.{Step, Makes, is_open, is_in_order, after_bad}
 use Rattle.trace.specs.Seen.{run_of}
 
--- what every call of a record puts together: the next place, and the line of the place that is past
-abbrev pub made_of : Kept → Phase → code.Table → List ℕ → ℕ → Word → ℕ → More → Made
-made_of k p t changes committed w n m = record {
-  kept = record { phase = p; place = plus k.place 1; table = t; changes = changes; committed = committed };
+-- what every call of a record ends with: the next place, and the line of the place that is past
+abbrev pub told : Kept → Word → ℕ → More → Made
+told k w n m = record {
+  kept = record { phase = k.phase; place = plus k.place 1; table = k.table; changes = k.changes; committed = k.committed };
   line = record { place = k.place; word = w; number = n; more = m };
 }
+
+-- what is kept, once a call has been made of it
+abbrev pub kept_with : Kept → Phase → code.Table → List ℕ → ℕ → Kept
+kept_with k p t changes committed = record { phase = p; place = k.place; table = t; changes = changes; committed = committed }
 
 -- a record's call made, with the working image and the undo area
 abbrev pub step_of : Made → List ℕ → List ℕ → Step
@@ -36,7 +41,7 @@ abbrev pub MakesAlone : Kept → Call → Made → Type 0
 MakesAlone k c m = (image undo : List ℕ) → Makes (run_of k image undo) c (step_of m image undo)
 
 -- the create whose record the bytes are, on the table
-abbrev pub CreatedBy : Table → List ℕ → List ℕ → List ℕ → Head → Created → List ℕ → List ℕ → Type 0
+abbrev pub CreatedBy : Table → List ℕ → List ℕ → List ℕ → Head → Answered Created → List ℕ → List ℕ → Type 0
 CreatedBy t image undo bytes h r image' undo' =
     Creates t image undo
     (change_of h.block h.offset (part bytes (data_start h.names) h.bytes) (numbers_at bytes numbers_start h.names))

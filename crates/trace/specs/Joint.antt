@@ -1,8 +1,7 @@
 -- Document 02, request d: the trace records the joint call as the calls it made. Replayed, they give its table and its answers.
-use Rattle.std.specs.Prelude.{ℕ, ◌≡◌, true, List, [], ◌∷◌, length}
-use Rattle.std.proofs.Math.Option.{Option, none, some}
+use Rattle.std.specs.Prelude.{ℕ, ◌≡◌, true, List, [], ◌∷◌, length, Option, Some, None}
 use Rattle.rules.specs.Sizes.{block_bytes}
-use Rattle.rules.specs.Calls.{plain_number}
+use Rattle.rules.specs.Calls.{answer_number}
 use Rattle.rules.specs.Joint.{Joint, CompletesWrites, second_number}
 use Rattle.records.specs.Record.{Call}
 use Rattle.records.specs.Writer.{calls_made}
@@ -17,16 +16,16 @@ pub data MakesAll : Run → List Call → Run → List ℕ → Type 0 where
 
 -- the numbers of a joint call: completing's, and write's where it was tried
 abbrev pub with_second : Option ℕ → List ℕ
-with_second none = []
-with_second (some k) = k ∷ []
+with_second None = []
+with_second (Some k) = k ∷ []
 
 abbrev pub numbers_of : Joint → List ℕ
-numbers_of o = plain_number o.first ∷ with_second (second_number o.second)
+numbers_of o = answer_number o.first ∷ with_second (second_number o.second)
 
 -- what a replay comes to that is where the radio was
 pub record JointReplays (r : Run) (x y : ℕ) (o : Joint) : Type 0 where
   pub run : Run
-  pub made : MakesAll r (calls_made (plain_number o.first) x y) run (numbers_of o)
+  pub made : MakesAll r (calls_made (answer_number o.first) x y) run (numbers_of o)
   pub table : run.table ≡ o.table
   pub image : run.image ≡ o.image
   pub undo : run.undo ≡ o.undo

@@ -1,21 +1,17 @@
 -- Document 02, request c: a record's call is made on what is kept, by the rules' own definitions; what is kept then, and what its line says.
-use Rattle.std.specs.Prelude.{ℕ, ◌≡◌, Bool, true, false, not, List, replicate}
+use Rattle.std.specs.Prelude.{ℕ, ◌≡◌, Bool, true, false, not, List, replicate, Result, Ok, Err}
 use Rattle.masks.specs.Sets.{has, how_many}
 use Rattle.rules.specs.declared.Setting.TheVariants.{Board}
 use Rattle.rules.specs.declared.Slot.{Slot}
-use Rattle.rules.specs.declared.Answer.{Answer}
-use Rattle.rules.specs.declared.Answer.TheVariants as plain
-use Rattle.rules.specs.declared.CreateAnswer.{CreateAnswer}
-use Rattle.rules.specs.declared.CreateAnswer.TheVariants as create
-use Rattle.rules.specs.declared.WriteAnswer.{WriteAnswer}
-use Rattle.rules.specs.declared.WriteAnswer.TheVariants as write
+use Rattle.rules.specs.declared.Created.{Created}
+use Rattle.rules.specs.declared.refusals.Refusal.{Refusal}
 use Rattle.rules.specs.Sizes.{slots, block_bytes, image_bytes}
 use Rattle.rules.specs.Settings.{undo_bytes}
 use Rattle.rules.specs.Table.{Table}
 use Rattle.rules.specs.Open.{opened}
 use Rattle.rules.specs.Create.{Change}
 use Rattle.rules.specs.Complete.{landing}
-use Rattle.rules.specs.Calls.{plain_number, Opening, Opens, create_number, Creation, Creates, write_number, Writing, Writes, Completion, Completes}
+use Rattle.rules.specs.Calls.{answer_number, Opening, Opens, Creation, Creates, Writing, Writes, Completion, Completes}
 use Rattle.records.specs.Record.{Call, opens, creates, writes, completes, cuts, record_of, Fits}
 use Rattle.lines.specs.declared.types.Word.{Word}
 use Rattle.lines.specs.declared.types.Word.TheVariants as word
@@ -87,34 +83,34 @@ onward r p t image undo changes committed = record {
 abbrev pub after_open : Run → Opening → Step
 after_open r o = record {
   run = onward r phase.Opened o.table r.image r.undo r.changes r.committed;
-  line = line_of r word.Open (plain_number o.answer) more.Nothing;
+  line = line_of r word.Open (answer_number o.answer) more.Nothing;
 }
 
 -- CREATE: granted, the patch with the number that was answered stands for one change more
-abbrev pub changes_after : CreateAnswer → List Slot → List ℕ → List ℕ
-changes_after (create.Granted n h) ss changes = one_more ss n changes
-changes_after (create.Refused k) ss changes = changes
+abbrev pub changes_after : Result Created Refusal → List Slot → List ℕ → List ℕ
+changes_after (Ok a) ss changes = one_more ss a.number changes
+changes_after (Err r) ss changes = changes
 
 -- a granted create adds number and hard or soft
-abbrev pub create_more : CreateAnswer → More
-create_more (create.Granted n h) = more.Patch n h
-create_more (create.Refused k) = more.Nothing
+abbrev pub create_more : Result Created Refusal → More
+create_more (Ok a) = more.Patch a.number a.hold
+create_more (Err r) = more.Nothing
 
 abbrev pub after_create : Run → Creation → Step
 after_create r o = record {
   run = onward r phase.Opened o.table o.image o.undo (changes_after o.answer o.table.slots r.changes) r.committed;
-  line = line_of r word.Create (create_number o.answer) (create_more o.answer);
+  line = line_of r word.Create (answer_number o.answer) (create_more o.answer);
 }
 
 -- WRITE: a granted one adds how many patches went
-abbrev pub write_more : WriteAnswer → More
-write_more (write.Granted s) = more.Patches (how_many (has s) slots)
-write_more (write.Refused k) = more.Nothing
+abbrev pub write_more : Result ℕ Refusal → More
+write_more (Ok s) = more.Patches (how_many (has s) slots)
+write_more (Err r) = more.Nothing
 
 abbrev pub after_write : Run → Writing → Step
 after_write r o = record {
   run = onward r phase.Opened o.table o.image o.undo r.changes r.committed;
-  line = line_of r word.Write (write_number o.answer) (write_more o.answer);
+  line = line_of r word.Write (answer_number o.answer) (write_more o.answer);
 }
 
 -- the block that is lent to write: what is handed out is not printed
@@ -122,19 +118,19 @@ abbrev pub blank : List ℕ
 blank = replicate block_bytes 0
 
 -- COMPLETE: granted, the changes of the block's patches in flight have committed
-abbrev pub changes_left : Answer → ℕ → List ℕ → List ℕ
-changes_left plain.Granted landed changes = cleared changes landed
-changes_left (plain.Refused k) landed changes = changes
+abbrev pub changes_left : Result (Unit {0}) Refusal → ℕ → List ℕ → List ℕ
+changes_left (Ok u) landed changes = cleared changes landed
+changes_left (Err r) landed changes = changes
 
-abbrev pub now_committed : Answer → ℕ → List ℕ → ℕ → ℕ
-now_committed plain.Granted landed changes committed = plus committed (carried changes landed)
-now_committed (plain.Refused k) landed changes committed = committed
+abbrev pub now_committed : Result (Unit {0}) Refusal → ℕ → List ℕ → ℕ → ℕ
+now_committed (Ok u) landed changes committed = plus committed (carried changes landed)
+now_committed (Err r) landed changes committed = committed
 
 abbrev pub after_complete : Run → ℕ → Completion → Step
 after_complete r b o = record {
   run = onward r phase.Opened o.table r.image r.undo (changes_left o.answer (landing r.table.slots b) r.changes)
       (now_committed o.answer (landing r.table.slots b) r.changes r.committed);
-  line = line_of r word.Complete (plain_number o.answer) more.Nothing;
+  line = line_of r word.Complete (answer_number o.answer) more.Nothing;
 }
 
 -- CUT: how many changes are on the store, those of landed writes and of those in flight whose block's bit is set

@@ -1,33 +1,31 @@
 // What a record's call leaves, put together: what every call of a record ends with.
 ghost use Rattle.std.specs.Prelude.{◌≡◌};
-ghost use Rattle.trace.specs.Inside.{made_of};
+ghost use Rattle.rules.specs.Calls.{answer_number};
+ghost use Rattle.trace.specs.Inside.{told};
 
-use crate::types::{Kept, Made, Phase};
-use cache::types::Table;
+use crate::types::{Kept, Made};
 use lines::types::{Line, More, Word};
-use rules::sizes::SLOTS;
+use rules::refusals::Refusal;
 use tally::plus;
 
+// The number of an answer on its line: 0 where the call is granted.
+pub(crate) fn answer_number<T>(answer: &Result<T, Refusal>) -> u64
+    ensures { result ≡ answer_number answer.now }
+{
+    match answer {
+        Ok(_) => 0,
+        Err(refusal) => refusal.number() as u64,
+    }
+}
+
 // The next place, and the line of the place that is past.
-pub(crate) fn made(
-    kept: Kept,
-    phase: Phase,
-    table: Table,
-    changes: [u64; SLOTS],
-    committed: u64,
-    word: Word,
-    number: u64,
-    more: More,
-) -> Made
-    ensures { result ≡ made_of kept phase table changes committed word number more }
+pub(crate) fn told(kept: Kept, word: Word, number: u64, more: More) -> Made
+    ensures { result ≡ told kept word number more }
 {
     Made {
         kept: Kept {
-            phase,
             place: plus(kept.place, 1),
-            table,
-            changes,
-            committed,
+            ..kept
         },
         line: Line {
             place: kept.place,

@@ -17,21 +17,19 @@ use cache::types::Table;
 use lines::types::{Line, More, Word};
 use lines::{LINE_BYTES, spell};
 use records::reader::only_in;
-use records::sizes::NO_RECORD;
 use records::types::{Found, Next};
 use rules::Setting;
+use rules::refusals::Refusal;
 use rules::sizes::SLOTS;
 
 // Nothing is opened yet. The image and the undo area that go with it are all zero.
 pub fn start() -> Kept
     ensures { run_of result (replicate image_bytes 0) (replicate (undo_bytes Board) 0) ≡ begun }
 {
-    let o = Table::open(Setting::Board, 1);
-    let table = o.table;
     Kept {
         phase: Phase::Unopened,
         place: 1,
-        table,
+        table: Table::open(Setting::Board, 1).table,
         changes: [0; SLOTS],
         committed: 0,
     }
@@ -40,13 +38,7 @@ pub fn start() -> Kept
 fn is_open(found: Found) -> bool
     ensures { IsOpen found result }
 {
-    match found {
-        Found::Open(_) => true,
-        Found::Create(_) => false,
-        Found::Write(_) => false,
-        Found::Complete(_) => false,
-        Found::Cut(_) => false,
-    }
+    matches!(found, Found::Open(_))
 }
 
 // Open comes first and is not given again; nothing comes after a cut.
@@ -64,20 +56,15 @@ fn is_in_order(phase: Phase, found: Found) -> bool
 fn made_bad(kept: Kept) -> Made
     ensures { MadeBad kept result }
 {
-    let table = kept.table;
-    let changes = kept.changes;
     Made {
         kept: Kept {
             phase: Phase::Over,
-            place: kept.place,
-            table,
-            changes,
-            committed: kept.committed,
+            ..kept
         },
         line: Line {
             place: kept.place,
             word: Word::Bad,
-            number: NO_RECORD as u64,
+            number: Refusal::NoRecord.number() as u64,
             more: More::Nothing,
         },
     }
@@ -104,8 +91,7 @@ fn made_found(kept: Kept, image: &mut [u8], undo: &mut [u8], bytes: &[u8], found
     ensures { Steps (run_of kept image.old undo.old) bytes.now
         (step_of result image.new undo.new) }
 {
-    let phase = kept.phase;
-    if !is_in_order(phase, found) {
+    if !is_in_order(kept.phase, found) {
         return made_bad(kept);
     }
     made_call(kept, image, undo, bytes, found)
@@ -116,25 +102,16 @@ fn made_of(kept: Kept, image: &mut [u8], undo: &mut [u8], bytes: &[u8]) -> Made
     ensures { Steps (run_of kept image.old undo.old) bytes.now
         (step_of result image.new undo.new) }
 {
-    let next = only_in(bytes);
-    match next {
+    match only_in(bytes) {
         Next::Record(found) => made_found(kept, image, undo, bytes, found),
-        Next::NoneYet(_) => made_bad(kept),
-        Next::Bad => made_bad(kept),
+        Next::NoneYet(_) | Next::Bad => made_bad(kept),
     }
 }
 
 fn is_bad(word: Word) -> bool
     ensures { result ≡ is_bad word }
 {
-    match word {
-        Word::Open => false,
-        Word::Create => false,
-        Word::Write => false,
-        Word::Complete => false,
-        Word::Cut => false,
-        Word::Bad => true,
-    }
+    matches!(word, Word::Bad)
 }
 
 // The bytes of one record: its call is made, and its line put into the lent buffer.
@@ -150,12 +127,9 @@ pub fn step(
     ensures counts { Counts result.length line.new }
 {
     let made = made_of(kept, image, undo, bytes);
-    let next = made.kept;
-    let said = made.line;
-    let word = said.word;
     Stepped {
-        kept: next,
-        length: spell(said, line),
-        bad: is_bad(word),
+        kept: made.kept,
+        length: spell(made.line, line),
+        bad: is_bad(made.line.word),
     }
 }

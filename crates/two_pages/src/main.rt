@@ -3,31 +3,32 @@
 // standard output, to be read beside the papers; `stdout` beside src/ is what it must write.
 #![tactic(auto)]
 
-mod calls;
 mod edges;
 mod joins;
 mod joint;
 mod old;
 mod pages;
-mod say;
+mod row;
+mod session;
+mod words;
 
-use rules::sizes::{IMAGE_BYTES, UNDO_BYTES};
+use session::Session;
 use std::io;
 
+// The examples share the image and the undo area, each as the one before left them.
 fn main(rt: HostRuntime) -> io::Result<()> {
-    let mut image = [0u8; IMAGE_BYTES];
-    // The undo area holds what it may. 7s show an old byte that was taken from anywhere but a kept room.
-    let mut undo = [7u8; UNDO_BYTES];
-    pages::session(&rt, &mut image, &mut undo)?;
-    edges::ranges(&rt, &mut image, &mut undo)?;
-    edges::last_number(&rt, &mut image, &mut undo)?;
-    edges::slots(&rt, &mut image, &mut undo)?;
-    edges::no_slot(&rt, &mut image, &mut undo)?;
-    edges::rooms(&rt, &mut image, &mut undo)?;
-    joins::befores(&rt, &mut image, &mut undo)?;
-    joins::overlap(&rt, &mut image, &mut undo)?;
-    old::asked(&rt)?;
-    old::named(&rt, &mut image, &mut undo)?;
-    old::sleep(&rt, &mut image, &mut undo)?;
-    joint::examples(&rt, &mut image, &mut undo)
+    let mut session = Session::new();
+    pages::session(&rt, &mut session)?;
+    edges::ranges(&rt, &mut session)?;
+    edges::names(&rt, &mut session)?;
+    edges::last_number(&rt, &mut session)?;
+    edges::slots(&rt, &mut session)?;
+    edges::no_slot(&rt, &mut session)?;
+    edges::rooms(&rt, &mut session)?;
+    joins::befores(&rt, &mut session)?;
+    joins::overlap(&rt, &mut session)?;
+    old::asked(&rt, &mut session)?;
+    old::named(&rt, &mut session)?;
+    old::sleep(&rt, &mut session)?;
+    joint::examples(&rt, &mut session)
 }

@@ -23,8 +23,8 @@ past_is_with m i l h = is_set m (λ k. has m k || eqb k i) l (λ k q. rw (ne_eqb
 pub returns-then-i-gt-LAST_SLOT : goal.returns-then-i-gt-LAST_SLOT
 returns-then-i-gt-LAST_SLOT c = past_is_with c.args.set c.args.i c.ranges.set.fits c.if-i-gt-LAST_SLOT.true
 
-pub returns : goal.returns
-returns c =
+pub returns-else-i-gt-LAST_SLOT : goal.returns-else-i-gt-LAST_SLOT
+returns-else-i-gt-LAST_SLOT c =
     let h : c.args.i < 64 = omega arith in
     ap (bit_or c.args.set) (shl_exact {a = 1} 1 c.args.i 64 (lit< tt) (omega arith) ∙ one-mul (2 ^ c.args.i))
     ∙ or_is_with c.args.set c.args.i c.ranges.set.fits h

@@ -1,25 +1,17 @@
--- `tally::carried` meets its contract: the sum of the slots passed. Assumes nothing.
-use mathlib.Core.Path.{◌≡◌, refl, sym, ap, ap₂, ◌∙◌}
-use native.Mathlib.Numerals.{add-one}
-use native.Mathlib.Omega.{arith}
-use Rattle.tally.specs.Counts.{plus, carried_below}
+-- `tally::carried` meets its contract: what the chain gives is a fold over the slots of the set. Assumes nothing.
+use mathlib.Core.Path.{refl, ◌∙◌}
+use Rattle.std.proofs.Common.{rules, tests}
+use Rattle.std.proofs.lemmas.Iterator.{YieldsList-from_range}
+use Rattle.std.proofs.lemmas.Iterator.Consumers.{YieldsList-from_filter, fold_from_yields_List}
+use Rattle.masks.specs.Sets.{has}
+use Rattle.tally.proofs.Folded.{with_slot, fold_is}
 use Rattle.tally.proofs.carried.Goals as goal
-
-pub loop-i-init : goal.loop-i-init
-unfolding carried_below
-loop-i-init c = (omega arith, refl)
-
-pub loop-i-preserved : goal.loop-i-preserved
-unfolding carried_below
-loop-i-preserved c =
-    let i = c.loop-i in (
-      omega arith,
-      c.plus-sum.ensures ∙ ap₂ plus i.invariant.1 c.carried_in.ensures
-          ∙ ap (carried_below c.args.changes c.args.set) (sym (add-one i.i)),
-    )
 
 pub returns : goal.returns
 returns c =
-    let i = c.loop-i in
-    let all : i.i ≡ 64 = omega (arith, i.invariant.0, c.loop-i-test.false) in
-    i.invariant.1 ∙ ap (carried_below c.args.changes c.args.set) all
+    let changes = c.args.changes.now in
+    let set = c.args.set in
+    fold_from_yields_List _ (with_slot changes set) 0 _ c.fold.ensures.ran
+    (YieldsList-from_filter _ (has set) (YieldsList-from_range 0 64 64 (cc) refl) c.filter.ensures.closure (λ x b q k. search (rules, tests)))
+    (λ t x b q k. search (rules, tests))
+    ∙ fold_is changes set

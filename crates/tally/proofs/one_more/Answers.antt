@@ -1,29 +1,14 @@
--- `tally::one_more` meets its contract: the counts of the slots passed stand at their places. Assumes nothing.
-use mathlib.Core.Path.{refl, ◌∙◌}
-use native.Mathlib.Omega.{arith}
-use borrow.Author.Count.{below_none}
-use lib.ListN.{length-set}
-use Rattle.rules.proofs.SlotsBy.{list_is}
-use Rattle.slots.proofs.Listed.{put_below}
-use Rattle.tally.specs.Counts.{one_more}
+-- `tally::one_more` meets its contract: the closure gives what the definition gives each slot. Assumes nothing.
+use mathlib.Core.Bool.{cond}
+use lib.ListN.{get_or}
+use Rattle.std.proofs.Common.{rules, tests}
+use Rattle.slots.proofs.Made.{made_is}
+use Rattle.tally.specs.Counts.{one_more, plus, holds_number}
 use Rattle.tally.proofs.one_more.Goals as goal
-use Rattle.tally.proofs.one_more.Invariants.{more_at}
-
-pub loop-i-init : goal.loop-i-init
-loop-i-init c = (omega arith, refl, below_none _)
-
-pub loop-i-preserved : goal.loop-i-preserved
-loop-i-preserved c =
-    let i = c.loop-i in
-    let a = c.args in (
-      omega arith,
-      length-set i.next i.i _ ∙ i.invariant.1,
-      put_below i.next i.i _ (more_at a.slots a.number a.changes) (omega arith) i.invariant.2 c.one_more_in.ensures,
-    )
 
 pub returns : goal.returns
 unfolding one_more
 returns c =
-    let i = c.loop-i in
     let a = c.args in
-    list_is 0 i.next (more_at a.slots a.number a.changes) 64 i.invariant.1 (λ k l. i.invariant.2 k (omega (arith, c.loop-i-test.false)))
+    made_is _ (λ k. cond (holds_number a.slots.now a.number k) (plus (get_or a.changes.now k 0) 1) (get_or a.changes.now k 0))
+    (λ i y q k. search (rules, tests)) 0 c.from_fn.ensures.items

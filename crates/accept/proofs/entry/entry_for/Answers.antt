@@ -1,65 +1,60 @@
 -- `accept::entry::entry_for` meets its contract: each answer is a case of Enters. Assumes nothing.
-use Prim.Native.Nat.{ℕ}
-use mathlib.Core.Path.{sym, subst, ◌∙◌}
+use Prim.Native.Nat.{ℕ, ◌<◌, ◌^◌}
+use mathlib.Core.Path.{◌≡◌, refl, sym, subst, ◌∙◌}
+use mathlib.Core.List.{List}
 use native.Mathlib.Omega.{arith}
-use Rattle.ground.proofs.Decided.{clash, yes_of, no_of}
+use Rattle.std.proofs.Common.{rules, tests, of_calls, Option, Some, None}
+use Rattle.ground.proofs.Decided.{clash}
 use Rattle.masks.specs.Lowest.{LowestOr, Outside}
+use Rattle.rules.specs.declared.Hold.{Hold}
+use Rattle.rules.specs.declared.Hold.TheVariants as hold
+use Rattle.rules.specs.declared.Setting.{Setting}
+use Rattle.rules.specs.declared.Slot.{Slot}
 use Rattle.rules.specs.Settings.{rooms}
 use Rattle.rules.specs.Create.{WouldBeHard}
 use Rattle.rules.proofs.Rooms.{rooms_most}
+use Rattle.accept.specs.declared.types.Entry.TheVariants as entry
 use Rattle.accept.specs.Asked.{Enters}
 use Rattle.accept.proofs.Numbered.{first_numbered, none_wait}
 use Rattle.accept.proofs.entry.entry_for.Goals as goal
 
-pub would_be_hard-requires : goal.would_be_hard-requires
-would_be_hard-requires c = c.patches_on-on.ensures.waiting
-
-pub returns-then-not-joins : goal.returns-then-not-joins
-returns-then-not-joins c =
-    let hard_here : let a = c.args in WouldBeHard a.setting a.slots a.block =
-    yes_of c.would_be_hard.result c.would_be_hard.ensures c.if-would_be_hard.true in
-    Enters.hard hard_here (λ j. clash j.joining (sym c.joins.ensures ∙ c.if-not-joins.true))
-
-pub returns-then-j-lt-SLOTS : goal.returns-then-j-lt-SLOTS
-returns-then-j-lt-SLOTS c =
-    let hard_here : let a = c.args in WouldBeHard a.setting a.slots a.block =
-    yes_of c.would_be_hard.result c.would_be_hard.ensures c.if-would_be_hard.true in
-    let a = c.args in
-    let first = first_numbered a.block c.patches_on-on.ensures.waiting c.lowest_numbered-j.ensures c.if-j-lt-SLOTS.true in
+pub returns-in-Some : goal.returns-in-Some
+returns-in-Some c =
+    let first = first_numbered c.args.slots.now c.args.block c.patches_on-on.ensures.waiting c.in-Some.ensures in
     Enters.joins
     (record {
-      joining = sym c.joins.ensures ∙ c.if-not-joins.false;
-      would_be_hard = hard_here;
-      some_wait = (c.lowest_numbered-j.result, first.numbered.is_slot, first.numbered.waits);
+      joining = sym c.joins.ensures ∙ c.if-joins.true;
+      would_be_hard = c.if-would_be_hard.ensures;
+      some_wait = (c.in-Some.j, first.numbered.is_slot, first.numbered.waits);
     })
     first
 
-pub returns-then-would_be_hard : goal.returns-then-would_be_hard
-returns-then-would_be_hard c =
-    let hard_here : let a = c.args in WouldBeHard a.setting a.slots a.block =
-    yes_of c.would_be_hard.result c.would_be_hard.ensures c.if-would_be_hard.true in
-    let a = c.args in
-    Enters.hard hard_here
-    (λ j. none_wait a.block c.patches_on-on.ensures.waiting c.lowest_numbered-j.ensures c.if-j-lt-SLOTS.false j.some_wait)
+pub returns-in_default : goal.returns-in_default
+returns-in_default c = Enters.hard c.if-would_be_hard.ensures (λ j. clash j.joining (sym c.joins.ensures ∙ c.if-joins.false))
 
-pub overflow_cast-room : goal.overflow_cast-room
-overflow_cast-room c =
-    record { fits = omega (arith, c.if-r-n.true, c.rooms-n.ensures, rooms_most c.args.setting) }
+pub returns-in_default-2 : goal.returns-in_default-2
+returns-in_default-2 c =
+    Enters.hard c.if-would_be_hard.ensures
+    (λ j. none_wait c.args.slots.now c.args.block c.patches_on-on.ensures.waiting c.in_default.ensures j.some_wait)
 
-pub returns-then-r-n : goal.returns-then-r-n
-returns-then-r-n c =
-    let not_hard : let a = c.args in WouldBeHard a.setting a.slots a.block → ⊥ =
-    no_of c.would_be_hard.result c.would_be_hard.ensures c.if-would_be_hard.false in
-    let lowest_of : let a = c.args in LowestOr (rooms a.setting) (Outside a.taken) c.lowest_outside-r.result =
-    let a = c.args in
-    subst (λ (n : ℕ). LowestOr n (Outside a.taken) c.lowest_outside-r.result) c.rooms-n.ensures c.lowest_outside-r.ensures in
-    Enters.soft not_hard (lowest_of.there (omega (arith, c.if-r-n.true, c.rooms-n.ensures)))
+pub map-requires : goal.map-requires
+map-requires c = λ r e.
+    let low = (c.lowest_outside-room.ensures.there r e).within in
+    let l : r < 2 ^ 32 = omega (arith, low, c.rooms.ensures, rooms_most c.args.setting) in
+    search (rules, of_calls)
 
-pub returns-else-r-n : goal.returns-else-r-n
-returns-else-r-n c =
-    let not_hard : let a = c.args in WouldBeHard a.setting a.slots a.block → ⊥ =
-    no_of c.would_be_hard.result c.would_be_hard.ensures c.if-would_be_hard.false in
-    let lowest_of : let a = c.args in LowestOr (rooms a.setting) (Outside a.taken) c.lowest_outside-r.result =
+-- soft with the lowest room, or none is left
+not_hard : {g : Setting} {ss : List Slot} {b taken : ℕ} (room : Option ℕ) {h : Option Hold} → (WouldBeHard g ss b → ⊥)
+    → LowestOr (rooms g) (Outside taken) room → ((r : ℕ) → room ≡ Some r → h ≡ Some (hold.Soft r)) → (room ≡ None → h ≡ None)
+    → Enters g ss b taken (entry.Own h)
+not_hard None n low some none = rw (none refl) (Enters.full n (low.nowhere refl))
+not_hard (Some r) n low some none = rw (some r refl) (Enters.soft n (low.there r refl))
+
+pub returns-else-would_be_hard : goal.returns-else-would_be_hard
+returns-else-would_be_hard c =
     let a = c.args in
-    subst (λ (n : ℕ). LowestOr n (Outside a.taken) c.lowest_outside-r.result) c.rooms-n.ensures c.lowest_outside-r.ensures in
-    Enters.full not_hard (lowest_of.nowhere (omega (arith, c.if-r-n.false, c.rooms-n.ensures)))
+    let room = c.lowest_outside-room.result in
+    not_hard room c.if-would_be_hard.ensures
+    (subst (λ (n : ℕ). LowestOr n (Outside a.taken) room) c.rooms.ensures c.lowest_outside-room.ensures)
+    (λ r e. let h = rw e at c.map.ensures.cases in search (rules, tests))
+    (λ e. let h = rw e at c.map.ensures.cases in search (rules, tests))

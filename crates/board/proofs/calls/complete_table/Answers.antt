@@ -8,16 +8,15 @@ use Rattle.board.proofs.calls.complete_table.Goals as goal
 pub returns-then-table-ne-TABLE_BYTES : goal.returns-then-table-ne-TABLE_BYTES
 returns-then-table-ne-TABLE_BYTES c = absurd (c.if-table-ne-TABLE_BYTES.true c.requires.size)
 
-pub returns-in-Granted : goal.returns-in-Granted
-returns-in-Granted c =
+pub returns-in-Ok : goal.returns-in-Ok
+returns-in-Ok c =
     let table_here = c.requires in
-    let seen_here = c.table_in-came.ensures ∙ read_whole _ table_here.size in
-    complete_granted_here (completion c.complete-o.result) table_here seen_here c.complete-o.ensures c.in-Granted.is
-    (c.store.ensures ∙ stored_whole _ _ table_here.size)
+    complete_granted_here (completion c.complete-completed.result) table_here (c.table_in.ensures ∙ read_whole _ table_here.size)
+    c.complete-completed.ensures c.in-Ok.is (c.store.ensures ∙ stored_whole _ _ table_here.size)
 
-pub returns-in-Refused : goal.returns-in-Refused
-returns-in-Refused c =
+pub returns-in-Err : goal.returns-in-Err
+returns-in-Err c =
     let table_here = c.requires in
-    let seen_here = c.table_in-came.ensures ∙ read_whole _ table_here.size in
-    complete_refused_here (completion c.complete-o.result) table_here seen_here c.complete-o.ensures c.in-Refused.k
-    c.in-Refused.is
+    rw c.number-in-Err.ensures
+    (complete_refused_here (completion c.complete-completed.result) table_here (c.table_in.ensures ∙ read_whole _ table_here.size)
+    c.complete-completed.ensures c.in-Err.refusal c.in-Err.is)

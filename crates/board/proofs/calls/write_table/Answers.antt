@@ -8,17 +8,18 @@ use Rattle.board.proofs.calls.write_table.Goals as goal
 pub returns-then-table-ne-TABLE_BYTES : goal.returns-then-table-ne-TABLE_BYTES
 returns-then-table-ne-TABLE_BYTES c = absurd (c.if-table-ne-TABLE_BYTES.true c.requires.size)
 
-pub returns-in-Granted : goal.returns-in-Granted
-returns-in-Granted c =
+pub returns-in-Ok : goal.returns-in-Ok
+returns-in-Ok c =
     let table_here = c.requires in
     let seen_here = c.table_in-came.ensures ∙ read_whole _ table_here.size in
-    write_granted_here (writing c.write-o.result c.args.image.now c.args.undo.now c.write-o.new.handed) table_here
-    seen_here c.write-o.ensures c.in-Granted.s c.in-Granted.is
+    write_granted_here (writing c.write-written.result c.args.image.now c.args.undo.now c.write-written.new.handed) table_here
+    seen_here c.write-written.ensures c.in-Ok.sent c.in-Ok.is
     (c.store.ensures ∙ stored_whole _ _ table_here.size)
 
-pub returns-in-Refused : goal.returns-in-Refused
-returns-in-Refused c =
+pub returns-in-Err : goal.returns-in-Err
+returns-in-Err c =
     let table_here = c.requires in
     let seen_here = c.table_in-came.ensures ∙ read_whole _ table_here.size in
-    write_refused_here (writing c.write-o.result c.args.image.now c.args.undo.now c.write-o.new.handed) table_here
-    seen_here c.write-o.ensures c.in-Refused.k c.in-Refused.is
+    rw c.number-in-Err.ensures
+    (write_refused_here (writing c.write-written.result c.args.image.now c.args.undo.now c.write-written.new.handed) table_here
+    seen_here c.write-written.ensures c.in-Err.refusal c.in-Err.is)

@@ -5,9 +5,8 @@ use Rattle.records.proofs.OneAnswer.{record_short}
 use Rattle.board.proofs.Recorded.{recorded_call}
 use Rattle.board.proofs.recording.board_record_complete.Goals as goal
 
-pub length_of-requires : goal.length_of-requires
-length_of-requires c = record_short _ (completes _) (recording _ _) c.complete-answer.ensures
+pub recorded-requires : goal.recorded-requires
+recorded-requires c = record_short _ (completes _) (recording _ _) c.complete.ensures
 
 pub returns : goal.returns
-returns c =
-    recorded_call _ (completes _) _ c.complete-answer.ensures c.refusal_of.ensures c.length_of.ensures
+returns c = recorded_call _ (completes _) _ c.complete.ensures c.recorded.ensures.refusal c.recorded.ensures.length

@@ -4,12 +4,12 @@ use Rattle.records.proofs.OneAnswer.{joint_record_short}
 use Rattle.board.proofs.Recorded.{joint_recorded_call}
 use Rattle.board.proofs.recording.board_record_complete_write.Goals as goal
 
-pub length_of-requires : goal.length_of-requires
-length_of-requires c =
+pub recorded-requires : goal.recorded-requires
+recorded-requires c =
     let a = c.args in
-    joint_record_short _ a.x a.y a.first (recording _ _) c.complete_write-answer.ensures
+    joint_record_short _ a.x a.y a.first (recording _ _) c.complete_write.ensures
 
 pub returns : goal.returns
 returns c =
     let a = c.args in
-    joint_recorded_call _ a.x a.y a.first _ c.complete_write-answer.ensures c.refusal_of.ensures c.length_of.ensures
+    joint_recorded_call _ a.x a.y a.first _ c.complete_write.ensures c.recorded.ensures.refusal c.recorded.ensures.length

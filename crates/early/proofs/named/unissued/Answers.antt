@@ -1,27 +1,15 @@
--- `early::named::unissued` meets its contract. The loop's invariant: each of the numbers passed was issued. Assumes nothing.
-use mathlib.Core.Path.{subst}
-use native.Mathlib.Omega.{arith}
-use borrow.Author.Count.{below_none, below_more}
-use Rattle.ground.proofs.Decided.{no_of, yes_of}
+-- `early::named::unissued` meets its contract. Assumes nothing.
+use Prim.Native.Nat.{ℕ}
+use Rattle.std.proofs.lemmas.Iterator.{YieldsList-from_slice, cases_from_any}
+use Rattle.std.proofs.Common.{rules, tests}
 use Rattle.rules.specs.Table.{Issued}
-use Rattle.slots.proofs.Members.{at_in, in_at}
+use Rattle.early.proofs.Unissued.{found}
 use Rattle.early.proofs.named.unissued.Goals as goal
-
-pub loop-k-init : goal.loop-k-init
-loop-k-init c = (omega arith, below_none _)
-
-pub returns-then-not-is_issued : goal.returns-then-not-is_issued
-returns-then-not-is_issued c =
-    let issued = c.is_issued in
-    (_, at_in c.args.numbers.now c.loop-k.k c.loop-k-test.true, no_of issued.result issued.ensures c.if-not-is_issued.true)
-
-pub loop-k-preserved : goal.loop-k-preserved
-loop-k-preserved c =
-    let issued = c.is_issued in
-    (omega arith, below_more _ _ c.loop-k.invariant.1 (yes_of issued.result issued.ensures c.if-not-is_issued.false))
 
 pub returns : goal.returns
 returns c =
-    let a = c.args in
-    λ u. let r = in_at a.numbers.now u.0 u.1 in
-    u.2 (subst (Issued a.next) r.2 (c.loop-k.invariant.1 r.0 (omega (arith, r.1))))
+    let next = c.args.next in
+    found next c.args.numbers.now c.any.result
+    (cases_from_any _ _ _ (λ (n : ℕ). Issued next n → ⊥) (Issued next) c.any.ensures.ran
+    (YieldsList-from_slice c.args.numbers.now cc)
+    (λ x q k. search (rules, tests)) (λ x q k. search (rules, tests)))

@@ -1,7 +1,6 @@
 -- `from_bytes::number_at` meets its contract. Assumes nothing.
-use native.Mathlib.Omega.{arith}
-use Rattle.layout.proofs.Numbers.{number_4}
+use Rattle.layout.proofs.Numbers.{read_4}
 use Rattle.layout.proofs.from_bytes.number_at.Goals as goal
 
 pub returns : goal.returns
-returns c = let a = c.args in omega (arith, number_4 a.bytes.now a.at)
+returns c = read_4 c.args.bytes.now c.args.at c.from_le_bytes.ensures c.array_at.ensures

@@ -1,5 +1,5 @@
 -- `from_bytes::table_in` meets its contract: field by field. Assumes nothing.
-use mathlib.Core.Path.{sym, ◌∙◌}
+use Rattle.std.proofs.Common.{sym, ◌∙◌}
 use Rattle.cache.specs.Seen.{opening}
 use Rattle.layout.specs.Layout.{table_in}
 use Rattle.layout.proofs.Length.{read_whole, read_other, opens_one}
@@ -7,7 +7,7 @@ use Rattle.layout.proofs.from_bytes.table_in.Goals as goal
 
 pub returns-then-bytes-ne-TABLE_BYTES : goal.returns-then-bytes-ne-TABLE_BYTES
 returns-then-bytes-ne-TABLE_BYTES c =
-    opens_one (opening c.open-o.result) c.open-o.ensures ∙ sym (read_other _ c.if-bytes-ne-TABLE_BYTES.true)
+    opens_one (opening c.open.result) c.open.ensures ∙ sym (read_other _ c.if-bytes-ne-TABLE_BYTES.true)
 
 pub returns : goal.returns
 unfolding table_in

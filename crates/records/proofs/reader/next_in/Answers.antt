@@ -1,51 +1,58 @@
 -- `reader::next_in` meets its contract. Assumes nothing.
-use Prim.Native.Nat.{ℕ, ◌+◌}
-use mathlib.Core.Path.{◌≡◌, sym, ◌∙◌}
-use mathlib.Core.List.{List}
-use mathlib.Core.Bool.{Bool}
-use native.Mathlib.Omega.{arith}
+use Rattle.std.proofs.Common.{ℕ, ◌+◌, ◌≡◌, ◌∙◌, sym, Bool, List, length, arith}
 use borrow.Author.Tests.{lt-ltb, le-ltb}
-use lib.ListN.{length}
+use Rattle.records.specs.declared.tag.Tag.TheVariants as tag
 use Rattle.records.specs.Reader.{number_at, formed, next_in}
+use Rattle.records.proofs.Forms.{unknown}
+use Rattle.records.proofs.Numbers.{number_1, size_read}
 use Rattle.records.proofs.reader.next_in.Goals as goal
 
 -- the form that was judged is that of the tag and the length in the bytes
-form_read : (w : List ℕ) {tag n : ℕ} {r : Bool} → tag ≡ number_at w 0 1 → n ≡ number_at w 1 2 → r ≡ formed tag n
+form_read : (w : List ℕ) {tag n : ℕ} {r : Bool} → number_at w 0 1 ≡ tag → n ≡ number_at w 1 2 → r ≡ formed tag n
     → formed (number_at w 0 1) (number_at w 1 2) ≡ r
-form_read w e f g = rw (← e, ← f) (sym g)
+form_read w e f g = rw (e, ← f) (sym g)
 
-pub returns-then-have-lt-HEAD_BYTES : goal.returns-then-have-lt-HEAD_BYTES
+pub returns-in_default : goal.returns-in_default
 unfolding next_in
-returns-then-have-lt-HEAD_BYTES c = rw (lt-ltb (length c.args.bytes.now) 3 c.if-have-lt-HEAD_BYTES.true)
+returns-in_default c = rw (lt-ltb (length c.args.bytes.now) 3 c.in_default.len_below)
 
-pub returns-then-not-is_formed : goal.returns-then-not-is_formed
+pub returns-in_default-try_from : goal.returns-in_default-try_from
 unfolding next_in
-returns-then-not-is_formed c =
+returns-in_default-try_from c =
     let w = c.args.bytes.now in
-    let head = le-ltb (length w) 3 c.if-have-lt-HEAD_BYTES.false in
-    let read = form_read w c.byte_at-tag.ensures.0 c.two_at-n.ensures.0 c.is_formed.ensures in
-    rw (head, read, c.if-not-is_formed.true)
+    let head = le-ltb (length w) 3 c.in-len3-up.len_at_least in
+    let d = c.in_default-try_from.ensures in
+    let none = sym (unknown (number_at w 1 2) _ (d tag.Open) (d tag.Create) (d tag.Write) (d tag.Complete) (d tag.Cut)) in
+    rw (head, number_1 w 0, none)
 
-pub returns-then-have-n : goal.returns-then-have-n
+pub returns-then-not-takes : goal.returns-then-not-takes
 unfolding next_in
-returns-then-have-n c =
+returns-then-not-takes c =
     let w = c.args.bytes.now in
-    let head = le-ltb (length w) 3 c.if-have-lt-HEAD_BYTES.false in
-    let read = form_read w c.byte_at-tag.ensures.0 c.two_at-n.ensures.0 c.is_formed.ensures in
-    let short = lt-ltb (length w) (3 + number_at w 1 2) (omega (arith, c.two_at-n.ensures.0, c.if-have-n.true)) in
-    rw (head, read, c.if-not-is_formed.false, short, c.two_at-n.ensures.0)
+    let head = le-ltb (length w) 3 c.in-len3-up.len_at_least in
+    let read = form_read w (number_1 w 0 ∙ c.in-Ok.ensures) (c.from-n.ensures ∙ c.from_be_bytes.ensures ∙ size_read w) c.takes.ensures in
+    rw (head, read, c.if-not-takes.true)
 
-pub value_in-requires : goal.value_in-requires
-value_in-requires c = record {
-  n_in_bounds = omega (arith, c.if-have-n.false);
-  n_value = sym c.is_formed.ensures ∙ c.if-not-is_formed.false;
-}
+pub returns-then-bytes-n : goal.returns-then-bytes-n
+unfolding next_in
+returns-then-bytes-n c =
+    let w = c.args.bytes.now in
+    let head = le-ltb (length w) 3 c.in-len3-up.len_at_least in
+    let size = c.from-n.ensures ∙ c.from_be_bytes.ensures ∙ size_read w in
+    let read = form_read w (number_1 w 0 ∙ c.in-Ok.ensures) size c.takes.ensures in
+    let short = lt-ltb (length w) (3 + number_at w 1 2) (omega (arith, size, c.if-bytes-n.true)) in
+    rw (head, read, c.if-not-takes.false, short, size)
+
+pub value_in-requires-clause-n_value : goal.value_in-requires-clause-n_value
+value_in-requires-clause-n_value c = sym c.takes.ensures ∙ c.if-not-takes.false
 
 pub returns : goal.returns
 unfolding next_in
 returns c =
     let w = c.args.bytes.now in
-    let head = le-ltb (length w) 3 c.if-have-lt-HEAD_BYTES.false in
-    let read = form_read w c.byte_at-tag.ensures.0 c.two_at-n.ensures.0 c.is_formed.ensures in
-    let long = le-ltb (length w) (3 + number_at w 1 2) (omega (arith, c.two_at-n.ensures.0, c.if-have-n.false)) in
-    rw (head, read, c.if-not-is_formed.false, long, c.value_in.ensures, c.two_at-n.ensures.0, c.byte_at-tag.ensures.0)
+    let head = le-ltb (length w) 3 c.in-len3-up.len_at_least in
+    let size = c.from-n.ensures ∙ c.from_be_bytes.ensures ∙ size_read w in
+    let tag = number_1 w 0 ∙ c.in-Ok.ensures in
+    let read = form_read w tag size c.takes.ensures in
+    let long = le-ltb (length w) (3 + number_at w 1 2) (omega (arith, size, c.if-bytes-n.false)) in
+    rw (head, read, c.if-not-takes.false, long, c.value_in.ensures, size, tag)

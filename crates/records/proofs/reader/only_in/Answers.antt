@@ -1,25 +1,23 @@
 -- `reader::only_in` meets its contract. Assumes nothing.
-use Prim.Native.Nat.{◌+◌}
-use native.Mathlib.Omega.{arith}
+use Rattle.std.proofs.Common.{◌+◌, ◌≤◌, length, arith}
 use borrow.Author.Tests.{lt-ltb, le-ltb}
-use lib.ListN.{length}
-use Rattle.records.specs.Reader.{number_at, next_in, only_in}
+use Rattle.records.specs.Reader.{number_at, only_in}
+use Rattle.records.proofs.Numbers.{size_read}
 use Rattle.records.proofs.reader.only_in.Goals as goal
+use Rattle.records.proofs.reader.only_in.Goals.{in_default, in-len3-up+else-n-bytes}
 
-pub returns-then-have-lt-HEAD_BYTES : goal.returns-then-have-lt-HEAD_BYTES
-unfolding only_in next_in
-returns-then-have-lt-HEAD_BYTES c =
-    let w = c.args.bytes.now in
-    rw (le-ltb (3 + number_at w 1 2) (length w) (omega (arith, c.if-have-lt-HEAD_BYTES.true)), lt-ltb (length w) 3 c.if-have-lt-HEAD_BYTES.true)
-
-pub returns-then-n-have : goal.returns-then-n-have
+pub returns-then-n-bytes : goal.returns-then-n-bytes
 unfolding only_in
-returns-then-n-have c =
+returns-then-n-bytes c =
     let w = c.args.bytes.now in
-    rw (lt-ltb (3 + number_at w 1 2) (length w) (omega (arith, c.two_at-n.ensures.0, c.if-n-have.true)))
+    rw (lt-ltb (3 + number_at w 1 2) (length w) (omega (arith, c.from-n.ensures, c.from_be_bytes.ensures, size_read w)))
 
 pub returns : goal.returns
 unfolding only_in
 returns c =
     let w = c.args.bytes.now in
-    rw (le-ltb (3 + number_at w 1 2) (length w) (omega (arith, c.two_at-n.ensures.0, c.if-n-have.false)), c.next_in.ensures)
+    let ends : length w ≤ 3 + number_at w 1 2 = elim c.if-bytes-lt3.branch [
+      | in_default v ↦ omega arith
+      | in-len3-up+else-n-bytes v ↦ omega (arith, v.from-n.ensures, v.from_be_bytes.ensures, size_read w)
+    ] in
+    rw (le-ltb (3 + number_at w 1 2) (length w) ends) c.next_in.ensures

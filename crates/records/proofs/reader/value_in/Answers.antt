@@ -1,79 +1,47 @@
--- `reader::value_in` meets its contract: each tag in turn, and cut where it is no other. Assumes nothing.
-use Prim.Native.Nat.{ℕ}
-use mathlib.Core.Path.{◌≡◌, refl, subst}
-use mathlib.Core.Bool.{true}
-use native.Mathlib.Omega.{arith}
-use borrow.Author.Tests.{ne_eqb}
+-- `reader::value_in` meets its contract: each tag in turn. Assumes nothing.
+use Rattle.std.proofs.Common.{ℕ, ◌≡◌, true, subst, arith, rules}
+use Rattle.records.specs.declared.tag.Tag.{Tag}
+use Rattle.records.specs.Inside.{tag_number}
 use Rattle.records.specs.Reader.{formed, value_in}
-use Rattle.records.proofs.Forms.{Form, open_form, create_form, write_form, complete_form, cut_form, form}
-use Rattle.records.proofs.Forms.{open_long, create_long, write_long, complete_long}
+use Rattle.records.proofs.Forms.{open_long, create_long, write_long, complete_long, cut_long}
+use Rattle.records.proofs.Numbers.{number_1, read_4, read_8}
 use Rattle.records.proofs.reader.value_in.Goals as goal
 
--- a value with a known tag that is none of the first four is a cut's
-cut_of : {tag n : ℕ} → (tag ≡ 1 → ⊥) → (tag ≡ 2 → ⊥) → (tag ≡ 3 → ⊥) → (tag ≡ 4 → ⊥) → Form tag n → n ≡ 8
-cut_of a b c d open_form = absurd (a refl)
-cut_of a b c d (create_form l h) = absurd (b refl)
-cut_of a b c d write_form = absurd (c refl)
-cut_of a b c d complete_form = absurd (d refl)
-cut_of a b c d cut_form = refl
-
 -- a value with the tag of the arm has its arm's form
-of_tag : {tag t : ℕ} (n : ℕ) → tag ≡ t → formed tag n ≡ true → formed t n ≡ true
-of_tag n e f = subst (λ (x : ℕ). formed x n ≡ true) e f
+of_tag : {tag t : Tag} (n : ℕ) → tag ≡ t → formed (tag_number tag) n ≡ true → formed (tag_number t) n ≡ true
+of_tag n e f = subst (λ (x : Tag). formed (tag_number x) n ≡ true) e f
 
-pub four_at-requires : goal.four_at-requires
-four_at-requires c =
-    let n = c.args.n in
-    omega (arith, open_long n (of_tag n c.in-1.is c.requires.n_value), c.requires.n_in_bounds)
+pub array_at-requires : goal.array_at-requires
+array_at-requires c = let long = open_long c.args.n (of_tag c.args.n c.in-Open.is c.requires.n_value) in search rules
 
-pub create_in-requires : goal.create_in-requires
-create_in-requires c =
-    let n = c.args.n in
-    let long = create_long n (of_tag n c.in-2.is c.requires.n_value) in
-    record { n_in_bounds = c.requires.n_in_bounds; le_n = long.0 }
+pub create_in-requires-clause-le_n : goal.create_in-requires-clause-le_n
+create_in-requires-clause-le_n c = (create_long c.args.n (of_tag c.args.n c.in-Create.is c.requires.n_value)).0
 
-pub byte_at-requires : goal.byte_at-requires
-byte_at-requires c =
-    let n = c.args.n in
-    omega (arith, write_long n (of_tag n c.in-3.is c.requires.n_value), c.requires.n_in_bounds)
+pub bounds-bytes-3 : goal.bounds-bytes-3
+bounds-bytes-3 c = omega (arith, write_long c.args.n (of_tag c.args.n c.in-Write.is c.requires.n_value))
 
-pub byte_at-requires-in-4 : goal.byte_at-requires-in-4
-byte_at-requires-in-4 c =
-    let n = c.args.n in
-    omega (arith, complete_long n (of_tag n c.in-4.is c.requires.n_value), c.requires.n_in_bounds)
+pub bounds-bytes-3-in-Complete : goal.bounds-bytes-3-in-Complete
+bounds-bytes-3-in-Complete c = omega (arith, complete_long c.args.n (of_tag c.args.n c.in-Complete.is c.requires.n_value))
 
-pub eight_at-requires : goal.eight_at-requires
-eight_at-requires c =
-    let tag = c.args.tag in
-    let d1 : tag ≡ 1 → ⊥ = λ e. omega arith in
-    let d2 : tag ≡ 2 → ⊥ = λ e. omega arith in
-    let d3 : tag ≡ 3 → ⊥ = λ e. omega arith in
-    let d4 : tag ≡ 4 → ⊥ = λ e. omega arith in
-    let long = cut_of d1 d2 d3 d4 (form tag c.args.n c.requires.n_value) in
-    omega (arith, long, c.requires.n_in_bounds)
+pub array_at-requires-in-Cut : goal.array_at-requires-in-Cut
+array_at-requires-in-Cut c = let long = cut_long c.args.n (of_tag c.args.n c.in-Cut.is c.requires.n_value) in search rules
 
-pub returns-in-1 : goal.returns-in-1
+pub returns-in-Open : goal.returns-in-Open
 unfolding value_in
-returns-in-1 c = rw (c.in-1.is, c.four_at.ensures)
+returns-in-Open c = rw (c.in-Open.is, read_4 c.args.bytes.now 3 c.from_be_bytes.ensures c.array_at.ensures)
 
-pub returns-in-2 : goal.returns-in-2
+pub returns-in-Create : goal.returns-in-Create
 unfolding value_in
-returns-in-2 c = rw (c.in-2.is, c.create_in.ensures)
+returns-in-Create c = rw c.in-Create.is c.create_in.ensures
 
-pub returns-in-3 : goal.returns-in-3
+pub returns-in-Write : goal.returns-in-Write
 unfolding value_in
-returns-in-3 c = rw (c.in-3.is, c.byte_at.ensures.0)
+returns-in-Write c = rw (c.in-Write.is, c.from.ensures, number_1)
 
-pub returns-in-4 : goal.returns-in-4
+pub returns-in-Complete : goal.returns-in-Complete
 unfolding value_in
-returns-in-4 c = rw (c.in-4.is, c.byte_at-in-4.ensures.0)
+returns-in-Complete c = rw (c.in-Complete.is, c.from-in-Complete.ensures, number_1)
 
-pub returns-in_default : goal.returns-in_default
+pub returns-in-Cut : goal.returns-in-Cut
 unfolding value_in
-returns-in_default c =
-    let tag = c.args.tag in
-    let d1 : tag ≡ 1 → ⊥ = λ e. omega arith in
-    let d2 : tag ≡ 2 → ⊥ = λ e. omega arith in
-    let d3 : tag ≡ 3 → ⊥ = λ e. omega arith in
-    let d4 : tag ≡ 4 → ⊥ = λ e. omega arith in
-    rw (ne_eqb tag 1 d1, ne_eqb tag 2 d2, ne_eqb tag 3 d3, ne_eqb tag 4 d4, c.eight_at.ensures)
+returns-in-Cut c = rw (c.in-Cut.is, read_8 c.args.bytes.now 3 c.from_be_bytes-in-Cut.ensures c.array_at-in-Cut.ensures)

@@ -1,16 +1,20 @@
 -- `writer::cut` meets its contract: the head, and the value right after it. Assumes nothing.
-use mathlib.Core.Path.{refl}
-use native.Mathlib.Omega.{arith}
+use Rattle.std.proofs.Common.{◌∙◌, refl, arith}
+use Rattle.std.proofs.lemmas.Result.{err_from_is_err_and}
 use Rattle.spans.proofs.Laws.{laid}
 use Rattle.records.specs.Record.{cuts, high_first, value_of, record_of}
+use Rattle.records.proofs.Numbers.{high_8, laid_as}
 use Rattle.records.proofs.Recorded.{wrong_size, is_recorded}
 use Rattle.records.proofs.writer.cut.Goals as goal
 
-pub returns-then-buffer-ne-RECORD_BYTES : goal.returns-then-buffer-ne-RECORD_BYTES
-returns-then-buffer-ne-RECORD_BYTES c = wrong_size (record_of (cuts _)) c.if-buffer-ne-RECORD_BYTES.true
+pub returns-in_err-check_size : goal.returns-in_err-check_size
+returns-in_err-check_size c =
+    let p = err_from_is_err_and c.from_residual.result c.from_residual.ensures.1 in
+    let size = c.in_err-check_size.ensures in
+    rw (p.1, p.2, size.0) (wrong_size (record_of (cuts _)) size.1)
 
 pub returns : goal.returns
 unfolding high_first value_of record_of
 returns c =
-    is_recorded (record_of (cuts _)) c.if-buffer-ne-RECORD_BYTES.false (omega (arith, c.ranges.landed.fits)) refl
-    (laid 3 _ (record { is = c.head.ensures }) c.put_eight.ensures refl).is
+    is_recorded (record_of (cuts _)) c.in_ok-check_size.ensures (omega (arith, c.ranges.landed.fits)) refl
+    (laid 3 _ (record { is = c.head.ensures }) (laid_as _ _ c.put.ensures (c.to_be_bytes.ensures ∙ high_8 c.args.landed)) refl).is

@@ -1,19 +1,12 @@
 -- `writer::put_numbers` meets its contract: the loop has laid the first i numbers. Assumes nothing.
-use Prim.Native.Nat.{ℕ, ◌+◌, ◌*◌, ◌<◌}
-use mathlib.Core.Path.{◌≡◌, refl, sym, ap, ◌∙◌}
-use mathlib.Core.List.{List, []}
-use native.Mathlib.Omega.{arith}
-use lib.ListN.{length, get_or, take}
-use lib.Seq.{take-length, length-take-le}
+use Rattle.std.proofs.Common.{ℕ, ◌+◌, ◌*◌, ◌<◌, ◌≡◌, sym, ◌∙◌, List, length, get_or, take, length-take-le, arith}
+use Rattle.std.proofs.Math.Seq.{take-length}
 use Rattle.spans.specs.Spans.{splice}
-use Rattle.spans.proofs.Laws.{splice_none, splice_on, length_splice}
+use Rattle.spans.proofs.Laws.{splice_none, splice_on}
 use Rattle.records.specs.Record.{high_first, four_each}
+use Rattle.records.proofs.Numbers.{high_4, laid_as}
 use Rattle.records.proofs.Values.{length_each, each_more}
 use Rattle.records.proofs.writer.put_numbers.Goals as goal
-
-none_laid : (buffer : List ℕ) → buffer ≡ splice buffer 7 (four_each [])
-unfolding four_each
-none_laid buffer = sym (splice_none buffer 7)
 
 -- a turn lays one number more
 one_more : (old named buffer : List ℕ) (i : ℕ) → i < length named → buffer ≡ splice old 7 (four_each (take i named))
@@ -24,21 +17,19 @@ one_more old named buffer i l e =
     rw (e, at, ← each_more named i l) (splice_on old 7 ys (high_first 4 (get_or named i 0)))
 
 pub loop-i-init : goal.loop-i-init
-loop-i-init c = (omega arith, refl, none_laid _, refl)
+unfolding four_each
+loop-i-init c = sym (splice_none c.args.buffer.now 7)
 
 pub loop-i-preserved : goal.loop-i-preserved
 loop-i-preserved c =
     let i = c.loop-i in
-    let a = c.args in (
-      omega arith,
-      refl,
-      c.put_four.ensures ∙ one_more a.buffer.now a.named.now i.buffer i.i (omega arith) i.invariant.2,
-      ap length c.put_four.ensures ∙ length_splice _ _ _ ∙ i.invariant.3,
-    )
+    let a = c.args in
+    laid_as _ _ c.put.ensures (c.to_be_bytes.ensures ∙ high_4 (get_or a.named.now i.i 0))
+    ∙ one_more a.buffer.now a.named.now i.buffer i.i c.loop-i-test.true i.invariant
 
-pub returns : goal.returns
-returns c =
+pub returns-clause-laid : goal.returns-clause-laid
+returns-clause-laid c =
     let i = c.loop-i in
     let named = c.args.named.now in
     let all : i.i ≡ length named = omega arith in
-    i.invariant.2 ∙ rw (all, take-length named)
+    i.invariant ∙ rw (all, take-length named)

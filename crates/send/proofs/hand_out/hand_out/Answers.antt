@@ -18,6 +18,6 @@ returns c =
     let left = staying a.waiting a.set in
     let e : a.block * 256 ≡ block_start a.block = omega arith in
     c.take_all_back.ensures
-    ∙ down_ext a.slots _ left a.undo.now 0 a.next _ (λ i l. has_of left _ i c.without-left.ensures l)
-    ∙ ap (back_down a.slots left a.undo.now 0 a.next)
+    ∙ down_ext a.slots.now _ left a.undo.now 0 a.next _ (λ i l. has_of left _ i c.without.ensures l)
+    ∙ ap (back_down a.slots.now left a.undo.now 0 a.next)
     (c.copy.ensures ∙ ap (λ (x : ℕ). splice a.out.now 0 (part a.image.now x 256)) e)

@@ -39,5 +39,5 @@ module _ (ms : List ℕ) (n v : ℕ) (is : v ≡ set_of (λ k. has (get_or ms (n
 
 pub returns : goal.returns
 returns c =
-    let m = marking c.args.marks.now c.args.n _ c.with.ensures (omega (arith, c.requires)) in
+    let m = marking c.args.marks.now c.args.n _ c.with.ensures (omega (arith, c.told-marks)) in
     record { was = c.has.ensures; size = m.size; is = m.is; kept = m.kept }

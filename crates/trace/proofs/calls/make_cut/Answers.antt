@@ -8,4 +8,4 @@ pub returns : goal.returns
 returns c =
     let k = c.args.kept in
     let landed = c.carried-landed.ensures ∙ ap (carried k.changes) c.cut_landing.ensures in
-    cut_made k (c.plus.ensures ∙ ap (plus k.committed) landed) c.made.ensures
+    cut_made k (c.plus-number.ensures ∙ ap (plus k.committed) landed) c.told.ensures

@@ -3,4 +3,4 @@ use Rattle.trace.proofs.CallsMade.{open_made}
 use Rattle.trace.proofs.calls.make_open.Goals as goal
 
 pub returns : goal.returns
-returns c = open_made c.args.kept c.open-o.result c.open-o.ensures c.plain_number.ensures c.made.ensures
+returns c = open_made c.args.kept c.open-opened.result c.open-opened.ensures c.answer_number-number.ensures c.told.ensures

@@ -5,4 +5,4 @@ use Rattle.trace.proofs.calls.make_write.Goals as goal
 pub returns : goal.returns
 returns c =
     let a = c.args in
-    write_made a.kept a.image.now a.undo.now c.write-o.result c.write-o.ensures c.write_number.ensures c.write_more.ensures c.made.ensures
+    write_made a.kept a.image.now a.undo.now c.write-written.result c.write-written.ensures c.answer_number-number.ensures c.write_more.ensures c.told.ensures

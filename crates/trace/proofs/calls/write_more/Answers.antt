@@ -12,5 +12,5 @@ use Rattle.trace.proofs.calls.write_more.Goals as goal
 patches_of : (s : ℕ) → s < 2 ^ 64 → more.Patches (ones s) ≡ more.Patches (how_many (has s) 64)
 patches_of s l = ap more.Patches (ap ones (sym (set_has s l)) ∙ ones_many (has s) 64)
 
-pub returns-in-Granted : goal.returns-in-Granted
-returns-in-Granted c = rw c.in-Granted.is (patches_of c.in-Granted.set (omega arith))
+pub returns-in-Ok : goal.returns-in-Ok
+returns-in-Ok c = rw c.in-Ok.is (patches_of c.in-Ok.set (omega arith))

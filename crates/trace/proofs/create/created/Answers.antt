@@ -28,13 +28,13 @@ overflow_add-start c =
     let there = create_there c.args.bytes.now bytes c.args.head c.requires in
     record { fits = omega (arith, there.0) }
 
-pub slice_bounds-create-count : goal.slice_bounds-create-count
-slice_bounds-create-count c =
+pub slice_bounds-change-count : goal.slice_bounds-change-count
+slice_bounds-change-count c =
     let bytes : AllIn 1 c.args.bytes.now = λ i l. omega (arith, c.type_inv.bytes i) in
     omega (arith, (create_there c.args.bytes.now bytes c.args.head c.requires).1)
 
-pub slice_bounds-create-start : goal.slice_bounds-create-start
-slice_bounds-create-start c =
+pub slice_bounds-change-start : goal.slice_bounds-change-start
+slice_bounds-change-start c =
     let bytes : AllIn 1 c.args.bytes.now = λ i l. omega (arith, c.type_inv.bytes i) in
     omega (arith, (create_there c.args.bytes.now bytes c.args.head c.requires).1)
 
@@ -46,8 +46,8 @@ slice_bounds-named-end c =
     let numbered : length c.numbers_in-named.result ≡ 255 = ap length c.numbers_in-named.ensures ∙ length_in w n in
     omega (arith, (create_there w bytes c.args.head c.requires).0, numbered)
 
-pub slice_bounds-create-end-2 : goal.slice_bounds-create-end-2
-slice_bounds-create-end-2 c =
+pub slice_bounds-change-end-2 : goal.slice_bounds-change-end-2
+slice_bounds-change-end-2 c =
     let w = c.args.bytes.now in
     let n = c.args.head.names in
     let bytes : AllIn 1 w = λ i l. omega (arith, c.type_inv.bytes i) in

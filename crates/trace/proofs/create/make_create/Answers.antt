@@ -7,5 +7,5 @@ pub returns : goal.returns
 unfolding call_in
 returns c =
     let a = c.args in
-    create_made a.kept a.image.now a.undo.now c.created-o.result c.created-o.ensures c.create_number.ensures c.create_more.ensures
-    c.changes_after.ensures c.made.ensures
+    create_made a.kept a.image.now a.undo.now c.created-created.result c.created-created.ensures c.answer_number-number.ensures c.create_more.ensures
+    c.changes_after.ensures c.told.ensures

@@ -15,7 +15,7 @@ use Rattle.trace.proofs.run.start.Goals as goal
 pub returns : goal.returns
 unfolding begun
 returns c =
-    let opened-at-1 = open_one Board 1 _ _ c.open-o.ensures (open_row Board 1 (λ e. absurd (omega arith)) (omega arith)) in
+    let opened-at-1 = open_one Board 1 _ _ c.open.ensures (open_row Board 1 (λ e. absurd (omega arith)) (omega arith)) in
     ap (λ (o : Opening). record {
       phase = phase.Unopened;
       place = 1;

@@ -4,4 +4,4 @@ use Rattle.cache.proofs.types.Table.empty.Goals as goal
 
 pub returns : goal.returns
 unfolding list_from
-returns c = rw c.free-slot.ensures
+returns c = rw c.free.ensures

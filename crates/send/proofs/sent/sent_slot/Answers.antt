@@ -1,8 +1,0 @@
--- `send::sent::sent_slot` meets its contract. Assumes nothing.
-use mathlib.Core.Path.{ap, ◌∙◌}
-use Rattle.rules.specs.declared.State.{State}
-use Rattle.rules.specs.Slots.{with_state}
-use Rattle.send.proofs.sent.sent_slot.Goals as goal
-
-pub returns : goal.returns
-returns c = c.with_state.ensures ∙ ap (λ (u : State). with_state u c.args.s) c.sent_state.ensures
