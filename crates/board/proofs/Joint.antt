@@ -28,7 +28,7 @@ left : {image undo handed : List ℕ} {y : ℕ} (c : Completion) (w : Writing) �
     → bytes_of w.table ≡ table_after (answer_number w.answer) (bytes_of c.table) w.table
 left c w q = elim (ℕ_discrete (answer_number w.answer) 0) [
   | yes z ↦ sym (written (answer_number w.answer) (bytes_of c.table) w.table z)
-  | no d ↦ ap (λ (v : Writing). bytes_of v.table) (q.refusal d).1 ∙ sym (unwritten (answer_number w.answer) (bytes_of c.table) w.table d)
+  | no d ↦ ap (λ (v : Writing). bytes_of v.table) (q.refusal d).2 ∙ sym (unwritten (answer_number w.answer) (bytes_of c.table) w.table d)
 ]
 
 -- two ends with the same parts
@@ -83,7 +83,7 @@ says_not_tried {table} {image} {undo} {handed} {x} {y} {e} call = by (table_or_n
   where
     of : (o : Joint) → CompletesWrites (table_in table) image undo handed x y o → SaysNotTried (joint_end table o)
     of o p = record {
-      refused = λ n. let same = (joint-refused p n).1 in (ap (λ (u : Joint). second_as u.second) same, ap (λ (u : Joint). second_set u.second) same);
+      refused = λ n. let same = (joint-refused p n).2 in (ap (λ (u : Joint). second_as u.second) same, ap (λ (u : Joint). second_set u.second) same);
       tried = λ z.
           let r = joint_tried p z in
           let number = ap (λ (u : Joint). second_number u.second) r.2 in

@@ -231,7 +231,7 @@ pub open_kept : (n : ℕ) (o : Opening) → Opens Board n o → ReadsBack o.tabl
 open_kept n o p = go (ℕ_discrete (answer_number o.answer) 0)
   where
     go : Dec (answer_number o.answer ≡ 0) → ReadsBack o.table
-    go (no d) = subst (λ (x : Opening). ReadsBack x.table) (sym (p.refusal d).1) (read_back (opened Board 1) (opened_fits 1 (omega arith)))
+    go (no d) = subst (λ (x : Opening). ReadsBack x.table) (sym (p.refusal d).2) (read_back (opened Board 1) (opened_fits 1 (omega arith)))
     go (yes z) =
         let f = passed (λ e. omega arith) (subst (First (open_cases n)) z p.first) in
         let b : (last_number < n → ⊥) = λ l. f.0 (inr l) in

@@ -1,9 +1,11 @@
 // The seven functions. Each reads the table from its bytes, calls the method of `cache` on
 // it and, granted, writes the next table back; the joint call does so twice. Every call writes the
-// numbers behind its pointers. The crate `board_c` exports them.
+// numbers behind its pointers. The crate `board_c` exports them: that refusals, hold and state are numbers, and
+// what is said beside a refusal stands behind pointers, is the interface for C.
 ghost use Rattle.std.specs.Prelude.{◌<◌, ◌≡◌};
 ghost use Rattle.std.proofs.Math.Option.{some};
 ghost use Rattle.rules.specs.Create.{change_of};
+ghost use Rattle.rules.specs.Calls.{answer_number, sent_set};
 ghost use Rattle.board.specs.Calls.{OpenCall, CreateCall, WriteCall, CompleteCall, JointCall, AskCall, CountCall};
 ghost use Rattle.board.specs.Calls.{hold_number};
 ghost use Rattle.layout.specs.Layout.{IsTable};
@@ -12,7 +14,7 @@ use cache::types::Table;
 use layout::from_bytes::{is_table, table_in};
 use layout::sizes::TABLE_BYTES;
 use layout::to_bytes::store;
-use rules::refusals::Refusal;
+use rules::refusals::{Refusal, answer_number};
 use rules::sizes::{BLOCK_BYTES, IMAGE_BYTES, UNDO_BYTES};
 use rules::{AskAnswer, Change, Hold, Setting};
 
@@ -24,10 +26,7 @@ pub fn board_open(table: &mut [u8], first: u32) -> u32
     }
     let opened = Table::open(Setting::Board, first);
     store(table, &opened.table);
-    match opened.answer {
-        Ok(()) => 0,
-        Err(refusal) => refusal.number(),
-    }
+    answer_number(&opened.answer)
 }
 
 fn hold_number(h: Hold) -> u32
@@ -96,33 +95,26 @@ fn write_table(
     undo: &[u8],
     handed: &mut [u8],
     block: u32,
-    set: &mut u64,
-) -> u32
+) -> Result<u64, Refusal>
     requires { IsTable table.old }
     ensures { WriteCall table.old image.now undo.now handed.old block
         (record {
-          refusal = result;
-          set = set.new;
+          refusal = answer_number result;
+          set = sent_set result;
           table = table.new;
           image = image.now;
           undo = undo.now;
           handed = handed.new;
         }) }
 {
-    *set = 0;
     if table.len() != TABLE_BYTES {
-        return Refusal::NotSound.number();
+        return Err(Refusal::NotSound);
     }
     let came = table_in(table);
     let written = came.write(image, undo, handed, block);
-    match written.answer {
-        Ok(sent) => {
-            store(table, &written.table);
-            *set = sent;
-            0
-        }
-        Err(refusal) => refusal.number(),
-    }
+    let sent = written.answer?;
+    store(table, &written.table);
+    Ok(sent)
 }
 
 pub fn board_write(
@@ -150,25 +142,27 @@ pub fn board_write(
         }
         return Refusal::NotSound.number();
     }
-    write_table(table, image, undo, handed, block, set)
-}
-
-// A completion on bytes that are a table.
-fn complete_table(table: &mut [u8], block: u32) -> u32
-    requires { IsTable table.old }
-    ensures { CompleteCall table.old block result table.new }
-{
-    if table.len() != TABLE_BYTES {
-        return Refusal::NotSound.number();
-    }
-    let completed = table_in(table).complete(block);
-    match completed.answer {
-        Ok(()) => {
-            store(table, &completed.table);
+    match write_table(table, image, undo, handed, block) {
+        Ok(sent) => {
+            *set = sent;
             0
         }
         Err(refusal) => refusal.number(),
     }
+}
+
+// A completion on bytes that are a table.
+fn complete_table(table: &mut [u8], block: u32) -> Result<(), Refusal>
+    requires { IsTable table.old }
+    ensures { CompleteCall table.old block (answer_number result) table.new }
+{
+    if table.len() != TABLE_BYTES {
+        return Err(Refusal::NotSound);
+    }
+    let completed = table_in(table).complete(block);
+    completed.answer?;
+    store(table, &completed.table);
+    Ok(())
 }
 
 pub fn board_complete(table: &mut [u8], block: u32) -> u32
@@ -177,7 +171,7 @@ pub fn board_complete(table: &mut [u8], block: u32) -> u32
     if !is_table(table) {
         return Refusal::NotSound.number();
     }
-    complete_table(table, block)
+    answer_number(&complete_table(table, block))
 }
 
 // The second answer where completing was refused. No refusal has this number.
@@ -211,11 +205,17 @@ pub fn board_complete_write(
     if !is_table(table) {
         return Refusal::NotSound.number();
     }
-    let first = complete_table(table, x);
-    if first != 0 {
-        return first;
+    let completed = complete_table(table, x);
+    if let Err(refusal) = completed {
+        return refusal.number();
     }
-    *second = write_table(table, image, undo, handed, y, set);
+    match write_table(table, image, undo, handed, y) {
+        Ok(sent) => {
+            *second = 0;
+            *set = sent;
+        }
+        Err(refusal) => *second = refusal.number(),
+    }
     0
 }
 

@@ -1,8 +1,8 @@
 // Create: a change joins a waiting patch of its block, or becomes a patch in the lowest free slot, with
-// the number next.
+// the number next. Image and undo area are lent one by one, here, in write and below: create writes both and
+// write only reads them beside a block that it writes, so they would need two structs.
 ghost use Rattle.std.specs.Prelude.{◌+◌, ◌≤◌, ◌<◌, length, ◌≡◌};
 ghost use Rattle.rules.specs.Sizes.{slots, most_bytes};
-ghost use Rattle.spans.specs.Spans.{splice};
 ghost use Rattle.rules.specs.Create.{change_in, place, patch};
 ghost use Rattle.rules.specs.Calls.{Creates};
 ghost use Rattle.cache.specs.Seen.{seen, creation};
@@ -34,13 +34,6 @@ fn place(change: &Change) -> usize
     ensures { result ≡ place (change_in change.now) }
 {
     BLOCK_BYTES * (change.block as usize) + (change.offset as usize)
-}
-
-// The data into the working image, from place `at`.
-fn put(image: &mut [u8], at: usize, bytes: &[u8])
-    ensures { image.new ≡ splice image.old at bytes.now }
-{
-    spans::copy(image, at, bytes, 0, bytes.len());
 }
 
 impl Table {
@@ -77,7 +70,7 @@ impl Table {
         requires { j < slots }
         ensures { Joined (seen self.now) image.old (change_in change.now) j result image.new }
     {
-        put(image, place(change), change.bytes);
+        spans::lay(image, place(change), change.bytes);
         let more = added(&self.slots, change);
         let next = self.with_slots(joined(&self.slots, change.block, more, j));
         let number = self.slots[j].number;
@@ -112,7 +105,7 @@ impl Table {
         let patch = self.patch(change, hold);
         let at = place(change);
         keep(undo, image, hold, at, change.bytes.len());
-        put(image, at, change.bytes);
+        spans::lay(image, at, change.bytes);
         let number = self.next;
         Ok((self.with_patch(patch, j, hold), Created { number, hold }))
     }

@@ -35,7 +35,7 @@ opened_at g n o p = go (ℕ_discrete (answer_number o.answer) 0)
   where
     go : Dec (answer_number o.answer ≡ 0) → (m : ℕ) × (o.table ≡ opened g m)
     go (yes z) = (n, ap (λ (x : Opening). x.table) (p.grant z))
-    go (no d) = (1, ap (λ (x : Opening). x.table) (p.refusal d).1)
+    go (no d) = (1, ap (λ (x : Opening). x.table) (p.refusal d).2)
 
 begun_good : (g : Setting) (n : ℕ) (o : Opening) (store undo : List ℕ) → Opens g n o → length store ≡ image_bytes → Good (begun o store undo)
 unfolding begun written times_sent
@@ -75,7 +75,7 @@ module _ (h : History) (g : Good h) where
           subst (λ (x : Creation). Good (after_create h c x)) (sym a.whole) (joined_good (record { good = g; lowest = a.lowest; ready = v.ready }))
 
       go : Dec (answer_number o.answer ≡ 0) → Good (after_create h c o)
-      go (no d) = subst (λ (x : Creation). Good (after_create h c x)) (sym (p.refusal d).1) g
+      go (no d) = subst (λ (x : Creation). Good (after_create h c x)) (sym (p.refusal d).2) g
       go (yes z) = granted (create_passed p z) (p.grant z)
 
   -- ---- write
@@ -84,7 +84,7 @@ module _ (h : History) (g : Good h) where
   write_good b lent o p = go (ℕ_discrete (answer_number o.answer) 0)
     where
       go : Dec (answer_number o.answer ≡ 0) → Good (after_write h b o)
-      go (no d) = subst (λ (x : Writing). Good (after_write h b x)) (sym (p.refusal d).1) g
+      go (no d) = subst (λ (x : Writing). Good (after_write h b x)) (sym (p.refusal d).2) g
       go (yes z) =
           let a = p.grant z in
           subst (λ (x : Writing). Good (after_write h b x)) (sym a.whole)
@@ -96,7 +96,7 @@ module _ (h : History) (g : Good h) where
   complete_good b o p = go (ℕ_discrete (answer_number o.answer) 0)
     where
       go : Dec (answer_number o.answer ≡ 0) → Good (after_complete h b o)
-      go (no d) = subst (λ (x : Completion). Good (after_complete h b x)) (sym (p.refusal d).1) g
+      go (no d) = subst (λ (x : Completion). Good (after_complete h b x)) (sym (p.refusal d).2) g
       go (yes z) = subst (λ (x : Completion). Good (after_complete h b x)) (sym (p.grant z)) (landed_good g b)
 
 call_good : {h h' : History} → Good h → Call h h' → Good h'

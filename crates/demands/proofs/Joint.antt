@@ -57,7 +57,7 @@ module _ (h : History) (x y : ℕ) (lent : List ℕ) where
 
       by : Dec (answer_number w.answer ≡ 0) → Same w
       by (yes z) = subst Same (sym (q.grant z).whole) (granted (sent_set w.answer))
-      by (no d) = subst Same (sym (q.refusal d).1) refl
+      by (no d) = subst Same (sym (q.refusal d).2) refl
 
   pub joint_is_calls : (o : Joint) → CompletesWrites h.table h.image h.undo lent x y o → CallsMade h x y lent (after_joint h x y o)
   joint_is_calls o (CompletesWrites.stops c p n e) =

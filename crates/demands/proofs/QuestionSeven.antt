@@ -20,13 +20,13 @@ question_seven = record {
   creates = create_reaches;
   writes = write_reaches;
   create-refused = λ t image undo c o p d.
-      let same = (p.refusal d).1 in
+      let same = (p.refusal d).2 in
       (ap (λ (x : Creation). x.table) same, ap (λ (x : Creation). x.image) same, ap (λ (x : Creation). x.undo) same);
-  write-refused = λ t image undo block b o p d. (ap (λ (x : Writing). x.table) (p.refusal d).1, ap (λ (x : Writing). x.block) (p.refusal d).1);
-  complete-refused = λ t b o p d. ap (λ (x : Completion). x.table) (p.refusal d).1;
+  write-refused = λ t image undo block b o p d. (ap (λ (x : Writing). x.table) (p.refusal d).2, ap (λ (x : Writing). x.block) (p.refusal d).2);
+  complete-refused = λ t b o p d. ap (λ (x : Completion). x.table) (p.refusal d).2;
   joint = joint_reaches;
-  joint-refused = λ t image undo block x y o p d. (ap (λ (z : Joint). z.table) (joint-refused p d).1, ap (λ (z : Joint). z.block) (joint-refused p d).1);
-  joint_write_refused = λ t image undo block x y o p k e d. ap (λ (z : Joint). z.block) (joint_write_refused k p e d).1;
+  joint-refused = λ t image undo block x y o p d. (ap (λ (z : Joint). z.table) (joint-refused p d).2, ap (λ (z : Joint). z.block) (joint-refused p d).2);
+  joint_write_refused = λ t image undo block x y o p k e d. ap (λ (z : Joint). z.block) (joint_write_refused k p e d).2;
   store = λ h w new p l.
       subst (λ (s : List ℕ). Holds (has_landed new h) h.accepted h.opening p (get_or s p 0)) (sym (demand_3 w new).holds)
       (place_holds (has_landed new h) h.accepted h.opening p (omega (arith, (happened_good w).opening_whole)));

@@ -72,7 +72,7 @@ write_reaches t image undo block b o p = go (ℕ_discrete (answer_number o.answe
   where
     go : Dec (answer_number o.answer ≡ 0) → (o.image ≡ image) × (o.undo ≡ undo)
     go (yes z) = let a = p.grant z in (ap (λ (x : Writing). x.image) a.whole, ap (λ (x : Writing). x.undo) a.whole)
-    go (no d) = (ap (λ (x : Writing). x.image) (p.refusal d).1, ap (λ (x : Writing). x.undo) (p.refusal d).1)
+    go (no d) = (ap (λ (x : Writing). x.image) (p.refusal d).2, ap (λ (x : Writing). x.undo) (p.refusal d).2)
 
 -- ---- why a place holds its byte
 

@@ -8,8 +8,8 @@ use rules::sizes::{BLOCK_BYTES, IMAGE_BYTES, LAST_BLOCK};
 use slots::setting::undo_bytes;
 use slots::types::Patches;
 
-// The first of the refusals 1 to 12 that holds; `sound` says whether the table is, and `on` has the
-// block's patches.
+// The first of the refusals 1 to 12 that holds; `sound` says whether the table is (no more of the verdict is
+// needed, so nothing comes with it), and `on` has the block's patches.
 pub fn ready_to_write(
     setting: Setting,
     image: &[u8],

@@ -68,7 +68,7 @@ module _ (r : Run) where
       by : Dec (answer_number o.answer ≡ 0) → meant (run_create r c (create_end r.bytes o)) ≡ history.after_create (meant r) c o
       by (yes z) = granted (p.grant z) (kept z)
       by (no d) =
-          subst (λ (x : Creation). meant (run_create r c (create_end r.bytes x)) ≡ history.after_create (meant r) c x) (sym (p.refusal d).1) (refused _)
+          subst (λ (x : Creation). meant (run_create r c (create_end r.bytes x)) ≡ history.after_create (meant r) c x) (sym (p.refusal d).2) (refused _)
 
   write_means : (b : ℕ) (lent : List ℕ) (o : Writing) → Writes t r.image r.undo lent b o
       → (answer_number o.answer ≡ 0 → table_in (bytes_of o.table) ≡ o.table)
@@ -85,7 +85,7 @@ module _ (r : Run) where
           (sym (p.grant z).whole) (λ e. ap (with_table (history.after_write (meant r) b (write_granted t r.image r.undo b (sent_set o.answer)))) e)
           (kept z)
       by (no d) =
-          subst (λ (x : Writing). meant (run_write r b (write_end r.bytes x)) ≡ history.after_write (meant r) b x) (sym (p.refusal d).1) (refused _)
+          subst (λ (x : Writing). meant (run_write r b (write_end r.bytes x)) ≡ history.after_write (meant r) b x) (sym (p.refusal d).2) (refused _)
 
   complete_means : (b : ℕ) (o : Completion) → Completes t b o → (answer_number o.answer ≡ 0 → table_in (bytes_of o.table) ≡ o.table)
       → meant (run_complete r b (answer_number o.answer) (table_after (answer_number o.answer) r.bytes o.table)) ≡ history.after_complete (meant r) b o
@@ -102,7 +102,7 @@ module _ (r : Run) where
       by (yes z) =
           subst (λ (x : Completion). table_in (bytes_of x.table) ≡ x.table → meant (after x) ≡ history.after_complete (meant r) b x)
           (sym (p.grant z)) (λ e. ap (with_table (history.after_complete (meant r) b (complete_granted t b))) e) (kept z)
-      by (no d) = subst (λ (x : Completion). meant (after x) ≡ history.after_complete (meant r) b x) (sym (p.refusal d).1) (refused _)
+      by (no d) = subst (λ (x : Completion). meant (after x) ≡ history.after_complete (meant r) b x) (sym (p.refusal d).2) (refused _)
 
 begun_means : (o : Opening) (store undo : List ℕ) → table_in (bytes_of o.table) ≡ o.table
     → meant (run_begun (bytes_of o.table) store undo) ≡ history.begun o store undo

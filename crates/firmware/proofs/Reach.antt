@@ -109,7 +109,7 @@ handed_kept : {t : Table} {image undo handed : List ℕ} {x y : ℕ} {o : Joint}
 handed_kept (CompletesWrites.stops c p n e) d = ap (λ (u : Joint). u.block) e
 handed_kept (CompletesWrites.goes_on c p z w q e) d =
     ap (λ (u : Joint). u.block) e
-    ∙ ap (λ (v : Writing). v.block) (q.refusal (λ g. d (ap (λ (u : Joint). second_as u.second) e ∙ g))).1
+    ∙ ap (λ (v : Writing). v.block) (q.refusal (λ g. d (ap (λ (u : Joint). second_as u.second) e ∙ g))).2
 
 module _ (table image undo handed : List ℕ) (x y : ℕ) (e : JointEnd) (p : JointCall table image undo handed x y e) where
   pub joint_reaches : (e.image ≡ image) × (e.undo ≡ undo)

@@ -31,5 +31,5 @@ stored_other bytes t d = rw (ne_eqb (length bytes) table_bytes d)
 pub opens_one : (o : Opening) → Opens Board 1 o → o.table ≡ opened Board 1
 opens_one o p = elim (ℕ_discrete (answer_number o.answer) 0) [
   | yes z ↦ ap (λ (x : Opening). x.table) (p.grant z)
-  | no d ↦ ap (λ (x : Opening). x.table) (p.refusal d).1
+  | no d ↦ ap (λ (x : Opening). x.table) (p.refusal d).2
 ]

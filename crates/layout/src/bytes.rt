@@ -1,6 +1,6 @@
 // The bytes of a number of any width, taken out of others and laid over them. `records` has the same
-// two, and they are not shared: a public function asks nothing of its caller, and one that clips takes
-// 385 instructions more for a table read and written, of 5,428 (tried).
+// two, and they are not shared: a public function asks nothing of its caller, so it would have to clip
+// (tried: 385 instructions more for a table written, beside 5,428).
 ghost use Rattle.std.specs.Prelude.{◌+◌, ◌≤◌, ◌≡◌, length};
 ghost use Rattle.spans.specs.Spans.{splice, part};
 

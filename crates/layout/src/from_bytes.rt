@@ -62,7 +62,8 @@ fn slots_in(bytes: &[u8]) -> [Slot; SLOTS]
     std::array::from_fn(|i| slot_in(bytes, SLOTS_START + SLOT_BYTES * i))
 }
 
-// The table in the bytes. Of bytes of another length, of which no call asks, it is an empty one.
+// The table in the bytes. Of bytes of another length, of which no call asks, it is an empty one: a function
+// that could not fail still cannot, so it is no Option, and `is_table` is asked first.
 pub fn table_in(bytes: &[u8]) -> Table
     ensures { seen result ≡ table_read bytes.now }
 {

@@ -11,6 +11,7 @@ use cache::types::Table;
 use rules::{Hold, Kind, Slot, State};
 use slots::words::room_of;
 
+// No `From`: both types are another crate's.
 fn tag_of(u: State) -> u32
     ensures { result ≡ tag_of u }
 {

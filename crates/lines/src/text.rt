@@ -20,7 +20,7 @@ impl Text<'_> {
         requires { self.old.len + length more.now ≤ length self.old.buffer.now }
         ensures { Adds more.now self.old self.new }
     {
-        spans::copy(self.buffer, self.len, more, 0, more.len());
+        spans::lay(self.buffer, self.len, more);
         self.len += more.len();
     }
 

@@ -13,7 +13,8 @@ pub enum Word {
     Bad,
 }
 
-// What a granted write or create adds: how many patches went; the patch's number, and hard or soft.
+// What a granted write or create adds: how many patches went; the patch's number, and hard or soft. Three
+// cases, and so no Option.
 #[derive(Clone, Copy, Debug, PartialEq, Eq)]
 pub enum More {
     Nothing,

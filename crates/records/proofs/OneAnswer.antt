@@ -1,6 +1,6 @@
 -- ONE ANSWER: any two outcomes that the writer's promise admits are equal; and the length that it answers is at most 1,203. Assumes nothing.
 use Prim.Native.Nat.{ℕ, ◌≤◌}
-use mathlib.Core.Path.{◌≡◌, refl, sym, subst, ◌∙◌}
+use mathlib.Core.Path.{◌≡◌, sym, subst, ◌∙◌}
 use mathlib.Core.Bool.{Bool, true, false, cond}
 use mathlib.Core.List.{List, [], ◌∷◌}
 use lib.Dec.{eqb}
@@ -18,7 +18,7 @@ use Rattle.records.proofs.ReadBack.{length_short}
 
 -- whatever is recorded
 pub bytes_one : (buffer : List ℕ) (Fit : Type 0) (bytes : List ℕ) (o p : Recording) → RecordsBytes buffer Fit bytes o → RecordsBytes buffer Fit bytes p → o ≡ p
-bytes_one buffer Fit bytes = outcome_one (λ r. refl) (λ f o p a b. a ∙ sym b)
+bytes_one buffer Fit bytes = outcome_one (λ f o p a b. a ∙ sym b)
 
 pub record_one : (buffer : List ℕ) (c : Call) (o p : Recording) → Records buffer c o → Records buffer c p → o ≡ p
 record_one buffer c = bytes_one buffer (Fits c) (record_of c)
@@ -31,7 +31,7 @@ bytes_short : (buffer : List ℕ) (Fit : Type 0) (bytes : List ℕ) → (Fit →
     → (o : Recording) → RecordsBytes buffer Fit bytes o → record_length o.answer ≤ record_bytes
 bytes_short buffer Fit bytes all o p = elim (ℕ_discrete (answer_number o.answer) 0) [
   | yes z ↦ subst short (sym (p.grant z)) (granted_short (subst (First (cases_of buffer Fit)) z p.first))
-  | no d ↦ subst short (sym (p.refusal d).1) (omega arith)
+  | no d ↦ subst short (sym (p.refusal d).2) (omega arith)
 ]
   where
     short : Recording → Type 0

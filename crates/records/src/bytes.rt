@@ -1,4 +1,5 @@
-// The bytes of a number of any width, taken out of others and laid over them.
+// The bytes of a number of any width, taken out of others and laid over them. `layout` has the same two,
+// and says why they are not shared.
 ghost use Rattle.std.specs.Prelude.{◌+◌, ◌≤◌, ◌≡◌, length};
 ghost use Rattle.spans.specs.Spans.{splice, part};
 

@@ -74,7 +74,8 @@ pub fn only_in(bytes: &[u8]) -> Next
     next_in(bytes)
 }
 
-// The first n numbers of a create, for a caller that has found it whole: as many as are there.
+// The first n numbers of a create, for a caller that has found it whole: as many as are there. No heap, so it
+// is an array of the most that there can be, and the caller keeps n.
 pub fn numbers_in(bytes: &[u8], n: usize) -> [u32; MOST_NUMBERS]
     ensures { result ≡ numbers_in bytes.now n }
 {

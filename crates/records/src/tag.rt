@@ -36,6 +36,7 @@ impl TryFrom<u8> for Tag {
 }
 
 impl Tag {
+    // A method and no `From`, as the name says what the number is.
     pub fn number(self) -> u8
         ensures { result ≡ tag_number self }
     {

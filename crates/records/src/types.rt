@@ -20,7 +20,7 @@ pub enum Found {
 }
 
 // What lent bytes begin with: a record; none yet, and how many bytes are still to come before more can
-// be said; or what no record begins with (16).
+// be said; or what no record begins with (16). Three cases, and so neither an Option nor a Result.
 #[derive(Clone, Copy, Debug, PartialEq, Eq)]
 pub enum Next {
     Record(Found),

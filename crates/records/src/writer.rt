@@ -136,7 +136,7 @@ fn put_bytes(buffer: &mut [u8], at: usize, bytes: &[u8])
     ensures laid { buffer.new ≡ splice buffer.old at bytes.now }
     ensures fit { AllIn 1 bytes.now }
 {
-    spans::copy(buffer, at, bytes, 0, bytes.len());
+    spans::lay(buffer, at, bytes);
 }
 
 // A create's record, into a buffer in which it has room.

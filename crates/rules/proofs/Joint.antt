@@ -9,7 +9,7 @@ use Rattle.std.proofs.lemmas.Option.{none-some, same_Some}
 use Rattle.rules.specs.declared.refusals.Refusal.{Refusal}
 use Rattle.rules.specs.Table.{Table, Sound}
 use Rattle.rules.specs.Complete.{completed}
-use Rattle.rules.specs.Refusals.{write_cases}
+use Rattle.rules.specs.Refusals.{number_of, write_cases}
 use Rattle.rules.specs.Calls.{answer_number, Writing, Writes, write_refused, Completion, complete_refused}
 use Rattle.rules.specs.Calls.{complete_granted}
 use Rattle.rules.specs.Joint.{Joint, CompletesWrites, joint_stopped, joint_went, second_number}
@@ -33,10 +33,13 @@ write_alone_refused t image undo block x r = joint_went (complete_granted t x) (
 
 module _ {t : Table} {image undo block : List ℕ} {x y : ℕ} {o : Joint} where
   pub joint-refused : CompletesWrites t image undo block x y o → (answer_number o.first ≡ 0 → ⊥)
-      → (r : Refusal) × (o ≡ joint_refused t image undo block r)
+      → (r : Refusal) × (number_of r ≡ answer_number o.first) × (o ≡ joint_refused t image undo block r)
   joint-refused (CompletesWrites.stops c p n e) d =
-      let r = p.refusal n in
-      (r.0, e ∙ ap (λ (z : Completion). joint_stopped z image undo block) r.1)
+      let r = p.refusal n in (
+        r.0,
+        r.1 ∙ sym (ap (λ (z : Joint). answer_number z.first) e),
+        e ∙ ap (λ (z : Completion). joint_stopped z image undo block) r.2,
+      )
   joint-refused (CompletesWrites.goes_on c p z w q e) d = absurd (d (ap (λ (z : Joint). answer_number z.first) e ∙ z))
 
   -- completing granted, the write is tried on the table that the completion gave
@@ -49,13 +52,13 @@ module _ {t : Table} {image undo block : List ℕ} {x y : ℕ} {o : Joint} where
 
   -- only the write refused: the completion stands, and the block handed out keeps its bytes
   pub joint_write_refused : (k : ℕ) → CompletesWrites t image undo block x y o → second_number o.second ≡ Some k → (k ≡ 0 → ⊥)
-      → (r : Refusal) × (o ≡ write_alone_refused t image undo block x r)
+      → (r : Refusal) × (number_of r ≡ k) × (o ≡ write_alone_refused t image undo block x r)
   joint_write_refused k (CompletesWrites.stops c p n e) s d = absurd (none-some k (sym (ap (λ (z : Joint). second_number z.second) e) ∙ s))
   joint_write_refused k (CompletesWrites.goes_on c p z w q e) s d =
       let same : answer_number w.answer ≡ k = same_Some _ k (sym (ap (λ (z : Joint). second_number z.second) e) ∙ s) in
       let r = q.refusal (λ u. d (sym same ∙ u)) in
       let g = p.grant z in
-      (r.0, e ∙ ap (joint_went c) r.1 ∙ ap (λ (a : Completion). joint_went a (write_refused a.table image undo block r.0)) g)
+      (r.0, r.1 ∙ same, e ∙ ap (joint_went c) r.2 ∙ ap (λ (a : Completion). joint_went a (write_refused a.table image undo block r.0)) g)
 
   -- a second answer that has a number has one of write's
   pub second_most : (k : ℕ) → CompletesWrites t image undo block x y o → second_number o.second ≡ Some k → k ≤ 13

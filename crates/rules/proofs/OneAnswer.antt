@@ -15,22 +15,22 @@ use Rattle.rules.proofs.Granted.{create_facts}
 use Rattle.rules.proofs.Grants.{accepts_one, sends_one, asked_one, counts_one}
 
 pub open_one : (g : Setting) (n : ℕ) (o p : Opening) → Opens g n o → Opens g n p → o ≡ p
-open_one g n = outcome_one (λ r. refl) (λ f o p a b. a ∙ sym b)
+open_one g n = outcome_one (λ f o p a b. a ∙ sym b)
 
 pub create_one : (t : Table) (image undo : List ℕ) (c : Change) (o p : Creation) → Creates t image undo c o → Creates t image undo c p → o ≡ p
-create_one t image undo c = outcome_one (λ r. refl) (λ f o p. accepts_one t image undo c o p (create_facts t image undo c f).ready.sound)
+create_one t image undo c = outcome_one (λ f o p. accepts_one t image undo c o p (create_facts t image undo c f).ready.sound)
 
 pub write_one : (t : Table) (image undo block : List ℕ) (b : ℕ) (o p : Writing) → Writes t image undo block b o → Writes t image undo block b p → o ≡ p
-write_one t image undo block b = outcome_one (λ r. refl) (λ f. sends_one t image undo b)
+write_one t image undo block b = outcome_one (λ f. sends_one t image undo b)
 
 pub complete_one : (t : Table) (b : ℕ) (o p : Completion) → Completes t b o → Completes t b p → o ≡ p
-complete_one t b = outcome_one (λ r. refl) (λ f o p a c. a ∙ sym c)
+complete_one t b = outcome_one (λ f o p a c. a ∙ sym c)
 
 pub ask_one : (t : Table) (n : ℕ) (o p : AskAnswer) → Asks t n o → Asks t n p → o ≡ p
-ask_one t n = outcome_one (λ r. refl) (asked_one t n)
+ask_one t n = outcome_one (asked_one t n)
 
 pub count_one : (t : Table) (b : ℕ) (o p : Result ℕ Refusal) → Counts t b o → Counts t b p → o ≡ p
-count_one t b = outcome_one (λ r. refl) (λ f. counts_one t b)
+count_one t b = outcome_one (λ f. counts_one t b)
 
 -- the joint call: both of its calls have one
 pub complete_write_one : (t : Table) (image undo block : List ℕ) (x y : ℕ) (o p : Joint) → CompletesWrites t image undo block x y o

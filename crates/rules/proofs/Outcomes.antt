@@ -13,17 +13,17 @@ module _ {O : Type 0} {cases : List Case} {number : O → ℕ} {refused : Refusa
   pub refuses : (r : Refusal) → First cases (number_of r) → number (refused r) ≡ number_of r → Outcome cases number refused Granted (refused r)
   refuses r f e = record {
     first = subst (First cases) (sym e) f;
-    refusal = λ n. (r, refl);
+    refusal = λ n. (r, sym e, refl);
     grant = λ z. absurd (refusal_not0 r (sym e ∙ z));
   }
 
   pub grants : (o : O) → First cases 0 → number o ≡ 0 → Granted o → Outcome cases number refused Granted o
   grants o f e g = record { first = subst (First cases) (sym e) f; refusal = λ n. absurd (n e); grant = λ z. g }
 
-  -- any two outcomes are equal, where a refused one has its refusal's number
-  pub outcome_one : ((r : Refusal) → number (refused r) ≡ number_of r) → (First cases 0 → (o p : O) → Granted o → Granted p → o ≡ p) → (o p : O)
-      → Outcome cases number refused Granted o → Outcome cases number refused Granted p → o ≡ p
-  outcome_one says same o p a b = go (ℕ_discrete (number o) 0)
+  -- any two outcomes are equal
+  pub outcome_one : (First cases 0 → (o p : O) → Granted o → Granted p → o ≡ p) → (o p : O) → Outcome cases number refused Granted o
+      → Outcome cases number refused Granted p → o ≡ p
+  outcome_one same o p a b = go (ℕ_discrete (number o) 0)
     where
       e : number o ≡ number p
       e = first_one a.first b.first
@@ -33,5 +33,5 @@ module _ {O : Type 0} {cases : List Case} {number : O → ℕ} {refused : Refusa
       go (no n) =
           let r = a.refusal n in
           let q = b.refusal (λ z. n (e ∙ z)) in
-          let one : r.0 ≡ q.0 = refusal_one r.0 q.0 (sym (says r.0) ∙ sym (ap number r.1) ∙ e ∙ ap number q.1 ∙ says q.0) in
-          r.1 ∙ ap refused one ∙ sym q.1
+          let one : r.0 ≡ q.0 = refusal_one r.0 q.0 (r.1 ∙ e ∙ sym q.1) in
+          r.2 ∙ ap refused one ∙ sym q.2

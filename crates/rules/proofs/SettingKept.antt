@@ -33,7 +33,7 @@ pub open_setting : (g : Setting) (n : ℕ) (o : Opening) → Opens g n o → o.t
 open_setting g n o p = go (ℕ_discrete (answer_number o.answer) 0)
   where
     go : Dec (answer_number o.answer ≡ 0) → o.table.setting ≡ g
-    go (no d) = ap (λ (x : Opening). x.table.setting) (p.refusal d).1
+    go (no d) = ap (λ (x : Opening). x.table.setting) (p.refusal d).2
     go (yes z) = ap (λ (x : Opening). x.table.setting) (p.grant z)
 
 pub create_setting : (t : Table) (image undo : List ℕ) (c : Change) (o : Creation) → Creates t image undo c o → o.table.setting ≡ t.setting
@@ -44,19 +44,19 @@ create_setting t image undo c o p = go (ℕ_discrete (answer_number o.answer) 0)
     granted (Accepts.joins j g) = ap (λ (x : Creation). x.table.setting) g.whole ∙ joined_setting t c g.slot
 
     go : Dec (answer_number o.answer ≡ 0) → o.table.setting ≡ t.setting
-    go (no d) = ap (λ (x : Creation). x.table.setting) (p.refusal d).1
+    go (no d) = ap (λ (x : Creation). x.table.setting) (p.refusal d).2
     go (yes z) = granted (p.grant z)
 
 pub write_setting : (t : Table) (image undo block : List ℕ) (b : ℕ) (o : Writing) → Writes t image undo block b o → o.table.setting ≡ t.setting
 write_setting t image undo block b o p = go (ℕ_discrete (answer_number o.answer) 0)
   where
     go : Dec (answer_number o.answer ≡ 0) → o.table.setting ≡ t.setting
-    go (no d) = ap (λ (x : Writing). x.table.setting) (p.refusal d).1
+    go (no d) = ap (λ (x : Writing). x.table.setting) (p.refusal d).2
     go (yes z) = ap (λ (x : Writing). x.table.setting) (p.grant z).whole ∙ sent_setting t (sent_set o.answer)
 
 pub complete_setting : (t : Table) (b : ℕ) (o : Completion) → Completes t b o → o.table.setting ≡ t.setting
 complete_setting t b o p = go (ℕ_discrete (answer_number o.answer) 0)
   where
     go : Dec (answer_number o.answer ≡ 0) → o.table.setting ≡ t.setting
-    go (no d) = ap (λ (x : Completion). x.table.setting) (p.refusal d).1
+    go (no d) = ap (λ (x : Completion). x.table.setting) (p.refusal d).2
     go (yes z) = ap (λ (x : Completion). x.table.setting) (p.grant z) ∙ completed_setting t b

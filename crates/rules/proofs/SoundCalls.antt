@@ -21,7 +21,7 @@ pub open_sound : (g : Setting) (n : ℕ) (o : Opening) → Opens g n o → Sound
 open_sound g n o p = go (ℕ_discrete (answer_number o.answer) 0)
   where
     go : Dec (answer_number o.answer ≡ 0) → Sound o.table
-    go (no d) = subst (λ (x : Opening). Sound x.table) (sym (p.refusal d).1) (opened_sound g 1 (omega arith) (omega arith))
+    go (no d) = subst (λ (x : Opening). Sound x.table) (sym (p.refusal d).2) (opened_sound g 1 (omega arith) (omega arith))
     go (yes z) =
         let f = passed (λ e. omega arith) (subst (First (open_cases n)) z p.first) in
         let a : (n ≡ 0 → ⊥) = λ e. f.0 (inl e) in
@@ -38,19 +38,19 @@ create_sound t image undo c o s p = go (ℕ_discrete (answer_number o.answer) 0)
     granted v (Accepts.joins j g) = subst (λ (x : Creation). Sound x.table) (sym g.whole) (joined_sound t c g.slot s g.lowest)
 
     go : Dec (answer_number o.answer ≡ 0) → Sound o.table
-    go (no d) = subst (λ (x : Creation). Sound x.table) (sym (p.refusal d).1) s
+    go (no d) = subst (λ (x : Creation). Sound x.table) (sym (p.refusal d).2) s
     go (yes z) = granted (create_passed p z) (p.grant z)
 
 pub write_sound : (t : Table) (image undo block : List ℕ) (b : ℕ) (o : Writing) → Sound t → Writes t image undo block b o → Sound o.table
 write_sound t image undo block b o s p = go (ℕ_discrete (answer_number o.answer) 0)
   where
     go : Dec (answer_number o.answer ≡ 0) → Sound o.table
-    go (no d) = subst (λ (x : Writing). Sound x.table) (sym (p.refusal d).1) s
+    go (no d) = subst (λ (x : Writing). Sound x.table) (sym (p.refusal d).2) s
     go (yes z) = let g = p.grant z in subst (λ (x : Writing). Sound x.table) (sym g.whole) (sent_sound t (sent_set o.answer) s)
 
 pub complete_sound : (t : Table) (b : ℕ) (o : Completion) → Sound t → Completes t b o → Sound o.table
 complete_sound t b o s p = go (ℕ_discrete (answer_number o.answer) 0)
   where
     go : Dec (answer_number o.answer ≡ 0) → Sound o.table
-    go (no d) = subst (λ (x : Completion). Sound x.table) (sym (p.refusal d).1) s
+    go (no d) = subst (λ (x : Completion). Sound x.table) (sym (p.refusal d).2) s
     go (yes z) = subst (λ (x : Completion). Sound x.table) (sym (p.grant z)) (completed_sound t b s)

@@ -24,11 +24,11 @@ abbrev pub answer_number : {A : Type 0} → Result A Refusal → ℕ
 answer_number (Ok a) = 0
 answer_number (Err r) = number_of r
 
--- An outcome o of a call: its refusal number is the first that holds among the call's cases; refused, the outcome is all as it came, with a refusal; granted,
--- it is what the call does.
+-- An outcome o of a call: its refusal number is the first that holds among the call's cases; refused, the outcome is all as it came, with the
+-- refusal of that number; granted, it is what the call does.
 pub record Outcome {O : Type 0} (cases : List Case) (number : O → ℕ) (refused : Refusal → O) (Granted : O → Type 0) (o : O) : Type 0 where
   pub first : First cases (number o)
-  pub refusal : (number o ≡ 0 → ⊥) → (r : Refusal) × (o ≡ refused r)
+  pub refusal : (number o ≡ 0 → ⊥) → (r : Refusal) × (number_of r ≡ number o) × (o ≡ refused r)
   pub grant : number o ≡ 0 → Granted o
 
 -- OPEN

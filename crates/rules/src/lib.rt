@@ -50,7 +50,7 @@ pub struct Slot {
 }
 
 // A change as it is lent to a call: its block, where in it, the data, and the numbers named before it.
-#[derive(Clone, Copy)]
+#[derive(Clone, Copy, Debug)]
 pub struct Change<'a> {
     pub block: u32,
     pub offset: u32,
@@ -65,7 +65,8 @@ pub struct Created {
     pub hold: Hold,
 }
 
-// What ask answers: one of the three states, or a refusal with its number.
+// What ask answers: one of the three states, or a refusal with its number. It is no Result, since document
+// 01 names this form.
 #[derive(Clone, Copy, Debug, PartialEq, Eq)]
 pub enum AskAnswer {
     Waiting,

@@ -1,7 +1,8 @@
 // The refusals of document 01, by name and number, and the one of a record (document 02, request c).
-// specs/Refusals.antt says when each is given.
+// specs/Refusals.antt says when each is given; that of a record, records/specs/Writer.antt.
 ghost use Rattle.std.specs.Prelude.{◌≡◌};
 ghost use Rattle.rules.specs.Refusals.{number_of};
+ghost use Rattle.rules.specs.Calls.{answer_number};
 
 use std::error::Error;
 use std::fmt;
@@ -27,7 +28,8 @@ pub enum Refusal {
 }
 
 impl Refusal {
-    // 0 is granted, and no refusal has it.
+    // The papers' number; 0 is granted, and no refusal has it. A method and no `From`, as the name says what
+    // the number is.
     pub fn number(self) -> u32
         ensures { result ≡ number_of self }
     {
@@ -35,6 +37,17 @@ impl Refusal {
     }
 }
 
+// The number of an answer: 0 where the call is granted.
+pub fn answer_number<T>(answer: &Result<T, Refusal>) -> u32
+    ensures { result ≡ answer_number answer.now }
+{
+    match answer {
+        Ok(_) => 0,
+        Err(refusal) => refusal.number(),
+    }
+}
+
+// The words are those of the board's setting, which has 16 rooms.
 impl fmt::Display for Refusal {
     fn fmt<W: fmt::Write>(&self, f: &mut fmt::Formatter<W>) -> fmt::Result {
         f.write_str(match self {

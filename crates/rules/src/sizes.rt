@@ -3,8 +3,6 @@
 
 pub const SLOTS: usize = 64;
 
-pub const LAST_SLOT: usize = 63;
-
 pub const LAST_BLOCK: u32 = 63;
 
 // Undo rooms: on the board, and where undo is measured.
@@ -31,6 +29,6 @@ pub const ROOM_BYTES: usize = 64;
 pub const MOST_BYTES: usize = 64;
 
 // The same two of a slot, whose offset and length are numbers of 32 bits.
-pub const BLOCK_END: u32 = 256;
+pub const BLOCK_END: u32 = BLOCK_BYTES as u32;
 
-pub const MOST_LEN: u32 = 64;
+pub const MOST_LEN: u32 = MOST_BYTES as u32;

@@ -13,8 +13,9 @@ use rules::Slot;
 use rules::sizes::{BLOCK_BYTES, ROOM_BYTES, SLOTS};
 use slots::words::room_of;
 
-// Of the slots of `left`, the lowest with the highest number below `top`. (`max_by_key` takes the last
-// of several that are highest.)
+// Of the slots of `left`, the lowest with the highest number below `top`. No `max_by_key`: it takes the last
+// of several that are highest, so a chain would have to go backwards. Nor is it one function with `accept`'s
+// search for the lowest number: that would have to state the laws of an order to go by.
 fn highest(slots: &[Slot; SLOTS], left: u64, top: u32) -> Option<usize>
     ensures { HighestOr slots.now left top 64 result }
 {
@@ -50,7 +51,8 @@ fn take_all_back(out: &mut [u8], undo: &[u8], slots: &[Slot; SLOTS], left: u64, 
 }
 
 // The block as it goes out when the patches of `set` go; `waiting` is the set of the block's waiting
-// patches. The promise holds for any sets, slots and sizes.
+// patches. The promise holds for any sets, slots and sizes. The table's parts go one by one, as its type
+// stands with its methods, above.
 pub fn hand_out(
     out: &mut [u8],
     image: &[u8],

@@ -1,5 +1,5 @@
 -- Between crates, need not be believed: what the walks over the slots give, in the words of `rules`.
-use Rattle.std.specs.Prelude.{ℕ, ◌<◌, ◌≡◌, Bool, true, List, Option}
+use Rattle.std.specs.Prelude.{ℕ, ◌<◌, ◌≡◌, Bool, true, List, Option, length, get_or}
 use Rattle.masks.specs.Lowest.{LowestOr}
 use Rattle.masks.specs.Sets.{has, set_of, some_below}
 use Rattle.rules.specs.declared.Slot.{Slot}
@@ -15,6 +15,11 @@ Carries ss n i = (used ss i ≡ true) × ((slot_at ss i).number ≡ n)
 -- r is the lowest slot that is in use and has the number n
 abbrev pub Found : List Slot → ℕ → Option ℕ → Type 0
 Found ss n = LowestOr slots (Carries ss n)
+
+-- ns are the numbers of the 64 slots
+pub record NumbersOf (ss : List Slot) (ns : List ℕ) : Type 0 where
+  pub count : length ns ≡ slots
+  pub same : (i : ℕ) → i < slots → get_or ns i 0 ≡ (slot_at ss i).number
 
 -- m is the set of the slots that pass the test: of each slot, whether it is in m is what the test answers of it
 pub record SetWhere (test : Slot → Bool → Type 0) (ss : List Slot) (m : ℕ) : Type 0 where

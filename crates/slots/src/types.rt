@@ -2,7 +2,7 @@
 // can name it.
 
 // Those that wait, those of them that are hard, and those in flight.
-#[derive(Clone, Copy)]
+#[derive(Clone, Copy, Debug, PartialEq, Eq)]
 pub struct Patches {
     pub waiting: u64,
     pub hard: u64,

@@ -17,7 +17,8 @@ pub fn is_hard_patch(u: State) -> bool
     matches!(u, State::Waiting(Hold::Hard) | State::InFlight(Kind::Hard))
 }
 
-// The room of a soft waiting patch; 0 for any other, which has none.
+// The room of a soft waiting patch; 0 for any other, which has none. No Option: `room_of` of rules/specs/Slots.antt,
+// by which a table is laid in bytes, has this 0.
 pub fn room_of(u: State) -> u32
     ensures { result ≡ room_of u }
 {

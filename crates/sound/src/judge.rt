@@ -70,7 +70,8 @@ fn mark(marks: &mut [u64; 16], n: u32) -> bool
 
 // The first and the next number, then slot by slot. What is asked of a patch beside others is
 // gathered along the way, so that one walk does: the rooms, the slots in use, all befores, and the
-// marks of the numbers, of which only one that is there already asks for a search.
+// marks of the numbers, of which only one that is there already asks for a search. The parts of a table
+// go one by one: its type stands with its methods, in `cache`, and an impl of another crate's type is refused.
 pub fn judge(setting: Setting, first: u32, next: u32, slots: &[Slot; SLOTS]) -> Option<InUse>
     ensures { IsVerdict setting first next slots.now result }
 {

@@ -55,7 +55,8 @@ impl Files {
         made.answer
     }
 
-    // The number of the patch that a change became or joined.
+    // The number of the patch that a change became or joined. Its parts go one by one, so that a step reads as
+    // the paper's.
     pub fn change(
         &mut self,
         block: u32,

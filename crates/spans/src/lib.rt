@@ -1,5 +1,5 @@
 // Bytes laid over bytes. One function copies: a change into the working image, old bytes into an
-// undo room, a block to be handed out, and old bytes back into it.
+// undo room, a block to be handed out, and old bytes back into it. The other lays a whole slice.
 #![tactic(auto)]
 
 ghost use Rattle.std.specs.Prelude.{◌≡◌};
@@ -15,4 +15,11 @@ pub fn copy(dst: &mut [u8], at: usize, src: &[u8], from: usize, n: usize)
     if m > 0 {
         dst[at..at + m].copy_from_slice(&src[from..from + m]);
     }
+}
+
+// Lays all of src over dst from place `at`, as far as dst goes.
+pub fn lay(dst: &mut [u8], at: usize, src: &[u8])
+    ensures { dst.new ≡ splice dst.old at src.now }
+{
+    copy(dst, at, src, 0, src.len());
 }

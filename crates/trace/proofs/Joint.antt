@@ -35,7 +35,7 @@ other_block {t} {image} {undo} {lent} {b} other sized w p = record {
       (as_well (⊎_elim inl (λ z. inr (⊎_elim inl (λ d. inr (λ e. d (sized ∙ e))) z))) (⊎_elim inl (λ z. inr (⊎_elim inl (λ d. inr (λ e. d (sym sized ∙ e))) z)))
       (as_is (as_is (as_is (as_is (as_is none_differs))))))
       p.first;
-  refusal = λ d. let r = p.refusal d in (r.0, ap (on_other other) r.1);
+  refusal = λ d. let r = p.refusal d in (r.0, r.1, ap (on_other other) r.2);
   grant = λ z. let g = p.grant z in record {
     largest = g.largest;
     whole = subst (λ (v : Writing). on_other other v ≡ write_granted t image undo b (sent_set v.answer)) (sym g.whole) refl;

@@ -19,7 +19,7 @@ use Rattle.rules.specs.Create.{Change, is_in, patch, accepted, joined}
 use Rattle.rules.specs.Write.{sent}
 use Rattle.rules.specs.Complete.{landing, completed}
 use Rattle.rules.specs.Calls.{answer_number, Opening, Opens, Creation, Creates, Accepts, Takes, JoinsOne}
-use Rattle.rules.specs.Calls.{answer_number, Writing, Writes, sent_set, Completion, Completes}
+use Rattle.rules.specs.Calls.{Writing, Writes, sent_set, Completion, Completes}
 use Rattle.rules.proofs.StaysSound.{opened_sound}
 use Rattle.rules.proofs.Words.{waits_on_used}
 use Rattle.rules.proofs.SoundCalls.{open_sound, create_sound, write_sound, complete_sound}
@@ -138,7 +138,7 @@ module _ {r : Run} {ns : List ℕ} (told : Told r ns) where
       granted (Accepts.joins j g) = joins_told o sound g
 
       go : Dec (answer_number o.answer ≡ 0) → ToldBy ns (after_create r o)
-      go (no d) = subst (λ (x : Creation). ToldBy ns (after_create r x)) (sym (p.refusal d).1) (stays phase.Opened r.image r.undo (λ n. refl))
+      go (no d) = subst (λ (x : Creation). ToldBy ns (after_create r x)) (sym (p.refusal d).2) (stays phase.Opened r.image r.undo (λ n. refl))
       go (yes z) = granted (p.grant z)
 
   write_told : {b : ℕ} (o : Writing) → Writes t r.image r.undo blank b o → ToldBy ns (after_write r o)
@@ -149,7 +149,7 @@ module _ {r : Run} {ns : List ℕ} (told : Told r ns) where
       sound = write_sound t r.image r.undo blank b o told.sound p
 
       go : Dec (answer_number o.answer ≡ 0) → ToldBy ns (after_write r o)
-      go (no d) = subst (λ (x : Writing). ToldBy ns (after_write r x)) (sym (p.refusal d).1) (stays phase.Opened r.image r.undo (λ n. refl))
+      go (no d) = subst (λ (x : Writing). ToldBy ns (after_write r x)) (sym (p.refusal d).2) (stays phase.Opened r.image r.undo (λ n. refl))
       go (yes z) =
           let g = p.grant z in
           let s = sent_set o.answer in
@@ -165,7 +165,7 @@ module _ {r : Run} {ns : List ℕ} (told : Told r ns) where
       sound = complete_sound t b o told.sound p
 
       go : Dec (answer_number o.answer ≡ 0) → ToldBy ns (after_complete r b o)
-      go (no d) = subst (λ (x : Completion). ToldBy ns (after_complete r b x)) (sym (p.refusal d).1) (stays phase.Opened r.image r.undo (λ n. refl))
+      go (no d) = subst (λ (x : Completion). ToldBy ns (after_complete r b x)) (sym (p.refusal d).2) (stays phase.Opened r.image r.undo (λ n. refl))
       go (yes z) = subst (λ (x : Completion). ToldBy ns (after_complete r b x)) (sym (p.grant z)) (record {
         sound = subst (λ (x : Completion). Sound x.table) (p.grant z) sound;
         issued = told.issued;

@@ -5,17 +5,14 @@ ghost use Rattle.trace.specs.Inside.{told};
 
 use crate::types::{Kept, Made};
 use lines::types::{Line, More, Word};
-use rules::refusals::Refusal;
+use rules::refusals::{self, Refusal};
 use tally::plus;
 
 // The number of an answer on its line: 0 where the call is granted.
 pub(crate) fn answer_number<T>(answer: &Result<T, Refusal>) -> u64
     ensures { result ≡ answer_number answer.now }
 {
-    match answer {
-        Ok(_) => 0,
-        Err(refusal) => refusal.number() as u64,
-    }
+    u64::from(refusals::answer_number(answer))
 }
 
 // The next place, and the line of the place that is past.

@@ -1,4 +1,5 @@
-// The run: what is kept before the first record, and a step for the bytes of each.
+// The run: what is kept before the first record, and a step for the bytes of each. Image and undo area go
+// beside what is kept, and in no struct with it: three of the five calls touch neither, and write only reads them.
 ghost use Rattle.std.specs.Prelude.{◌≡◌, replicate};
 ghost use Rattle.rules.specs.declared.Setting.TheVariants.{Board};
 ghost use Rattle.rules.specs.Sizes.{image_bytes};

@@ -5,7 +5,7 @@ use lines::types::Line;
 use rules::sizes::SLOTS;
 
 // Before the open, after it, and after a cut or a bad record.
-#[derive(Clone, Copy)]
+#[derive(Clone, Copy, Debug, PartialEq, Eq)]
 pub enum Phase {
     Unopened,
     Opened,
@@ -13,8 +13,9 @@ pub enum Phase {
 }
 
 // The place of the next record; for the patch of each slot, how many changes it stands for; and how many
-// changes have committed.
-#[derive(Clone, Copy)]
+// changes have committed. The counts stand beside the slots, not in them: what a slot is may not change
+// (Slot, of which the board keeps the bytes).
+#[derive(Clone, Copy, Debug, PartialEq, Eq)]
 pub struct Kept {
     pub phase: Phase,
     pub place: u64,
@@ -24,14 +25,15 @@ pub struct Kept {
 }
 
 // A record's call made: what is kept from then on, and its line.
-#[derive(Clone, Copy)]
+#[derive(Clone, Copy, Debug, PartialEq, Eq)]
 pub struct Made {
     pub kept: Kept,
     pub line: Line,
 }
 
-// What a step gives back beside the line's bytes: how many these are, and whether the record was bad.
-#[derive(Clone, Copy)]
+// What a step gives back beside the line's bytes: how many these are, and whether the record was bad. That
+// is no flag over the other two: a bad record has its line and leaves something kept as any other.
+#[derive(Clone, Copy, Debug, PartialEq, Eq)]
 pub struct Stepped {
     pub kept: Kept,
     pub length: usize,

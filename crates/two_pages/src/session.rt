@@ -54,6 +54,7 @@ impl Session {
         made.answer
     }
 
+    // Its parts go one by one, so that an example's line reads as the paper's row.
     pub fn create(
         &mut self,
         rt: &impl Print,

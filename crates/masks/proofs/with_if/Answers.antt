@@ -3,8 +3,5 @@ use mathlib.Core.Path.{sym}
 use Rattle.masks.proofs.Laws.{with_none}
 use Rattle.masks.proofs.with_if.Goals as goal
 
-pub returns-then-goes : goal.returns-then-goes
-returns-then-goes c = rw c.if-goes.true c.with.ensures
-
 pub returns-else-goes : goal.returns-else-goes
 returns-else-goes c = rw c.if-goes.false (sym (with_none c.args.set c.ranges.set.fits))

@@ -2,11 +2,8 @@
 use mathlib.Core.Path.{◌∙◌}
 use Rattle.rules.specs.declared.AskAnswer.TheVariants as ask
 use Rattle.layout.proofs.Length.{read_whole}
-use Rattle.board.proofs.Answers.{ask_none, ask_here}
+use Rattle.board.proofs.Answers.{ask_here}
 use Rattle.board.proofs.calls.board_ask.Goals as goal
-
-pub returns-then-not-is_table : goal.returns-then-not-is_table
-returns-then-not-is_table c = rw c.number.ensures (ask_none _ _ c.if-not-is_table.ensures)
 
 pub returns-in-Refused : goal.returns-in-Refused
 returns-in-Refused c =

@@ -2,11 +2,8 @@
 use mathlib.Core.Path.{◌∙◌}
 use Rattle.std.specs.Prelude.{Ok, Err}
 use Rattle.layout.proofs.Length.{read_whole}
-use Rattle.board.proofs.Answers.{count_none, count_here}
+use Rattle.board.proofs.Answers.{count_here}
 use Rattle.board.proofs.calls.board_count.Goals as goal
-
-pub returns-then-not-is_table : goal.returns-then-not-is_table
-returns-then-not-is_table c = rw c.number.ensures (count_none _ _ c.if-not-is_table.ensures)
 
 pub returns-in-Ok : goal.returns-in-Ok
 returns-in-Ok c =

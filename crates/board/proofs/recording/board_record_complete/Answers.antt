@@ -2,11 +2,7 @@
 use Rattle.records.specs.Record.{completes}
 use Rattle.records.specs.Writer.{recording}
 use Rattle.records.proofs.OneAnswer.{record_short}
-use Rattle.board.proofs.Recorded.{recorded_call}
 use Rattle.board.proofs.recording.board_record_complete.Goals as goal
 
 pub recorded-requires : goal.recorded-requires
 recorded-requires c = record_short _ (completes _) (recording _ _) c.complete.ensures
-
-pub returns : goal.returns
-returns c = recorded_call _ (completes _) _ c.complete.ensures c.recorded.ensures.refusal c.recorded.ensures.length

@@ -2,11 +2,7 @@
 use Rattle.records.specs.Record.{creates}
 use Rattle.records.specs.Writer.{recording}
 use Rattle.records.proofs.OneAnswer.{record_short}
-use Rattle.board.proofs.Recorded.{recorded_call}
 use Rattle.board.proofs.recording.board_record_create.Goals as goal
 
 pub recorded-requires : goal.recorded-requires
 recorded-requires c = record_short _ (creates _) (recording _ _) c.create.ensures
-
-pub returns : goal.returns
-returns c = recorded_call _ (creates _) _ c.create.ensures c.recorded.ensures.refusal c.recorded.ensures.length

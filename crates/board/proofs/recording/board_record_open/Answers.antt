@@ -2,11 +2,7 @@
 use Rattle.records.specs.Record.{opens}
 use Rattle.records.specs.Writer.{recording}
 use Rattle.records.proofs.OneAnswer.{record_short}
-use Rattle.board.proofs.Recorded.{recorded_call}
 use Rattle.board.proofs.recording.board_record_open.Goals as goal
 
 pub recorded-requires : goal.recorded-requires
 recorded-requires c = record_short _ (opens _) (recording _ _) c.open.ensures
-
-pub returns : goal.returns
-returns c = recorded_call _ (opens _) _ c.open.ensures c.recorded.ensures.refusal c.recorded.ensures.length

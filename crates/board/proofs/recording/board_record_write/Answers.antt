@@ -2,11 +2,7 @@
 use Rattle.records.specs.Record.{writes}
 use Rattle.records.specs.Writer.{recording}
 use Rattle.records.proofs.OneAnswer.{record_short}
-use Rattle.board.proofs.Recorded.{recorded_call}
 use Rattle.board.proofs.recording.board_record_write.Goals as goal
 
 pub recorded-requires : goal.recorded-requires
 recorded-requires c = record_short _ (writes _) (recording _ _) c.write.ensures
-
-pub returns : goal.returns
-returns c = recorded_call _ (writes _) _ c.write.ensures c.recorded.ensures.refusal c.recorded.ensures.length

@@ -43,9 +43,6 @@ returns-then-bytes-n c =
     let short = lt-ltb (length w) (3 + number_at w 1 2) (omega (arith, size, c.if-bytes-n.true)) in
     rw (head, read, c.if-not-takes.false, short, size)
 
-pub value_in-requires-clause-n_value : goal.value_in-requires-clause-n_value
-value_in-requires-clause-n_value c = sym c.takes.ensures ∙ c.if-not-takes.false
-
 pub returns : goal.returns
 unfolding next_in
 returns c =

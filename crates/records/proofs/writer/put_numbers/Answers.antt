@@ -1,6 +1,5 @@
 -- `writer::put_numbers` meets its contract: the loop has laid the first i numbers. Assumes nothing.
 use Rattle.std.proofs.Common.{ℕ, ◌+◌, ◌*◌, ◌<◌, ◌≡◌, sym, ◌∙◌, List, length, get_or, take, length-take-le, arith}
-use Rattle.std.proofs.Math.Seq.{take-length}
 use Rattle.spans.specs.Spans.{splice}
 use Rattle.spans.proofs.Laws.{splice_none, splice_on}
 use Rattle.records.specs.Record.{high_first, four_each}
@@ -26,10 +25,3 @@ loop-i-preserved c =
     let a = c.args in
     laid_as _ _ c.put.ensures (c.to_be_bytes.ensures ∙ high_4 (get_or a.named.now i.i 0))
     ∙ one_more a.buffer.now a.named.now i.buffer i.i c.loop-i-test.true i.invariant
-
-pub returns-clause-laid : goal.returns-clause-laid
-returns-clause-laid c =
-    let i = c.loop-i in
-    let named = c.args.named.now in
-    let all : i.i ≡ length named = omega arith in
-    i.invariant ∙ rw (all, take-length named)

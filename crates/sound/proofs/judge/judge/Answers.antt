@@ -50,12 +50,6 @@ returns-then-not-sound_alone c =
     fails c.rooms-most.ensures c.loop-i-test.true
     (λ t. no_of {P = Alone _ _ _ _ _} c.sound_alone.result c.sound_alone.ensures c.if-not-sound_alone.true (t.alone in_use))
 
-pub returns-then-comes_again : goal.returns-then-comes_again
-returns-then-comes_again c =
-    let in_use = sym c.is_used.ensures ∙ c.if-not-is_used.false in
-    let below = yes_of c.comes_again.result c.comes_again.ensures c.if-comes_again.true in
-    fails c.rooms-most.ensures c.loop-i-test.true (λ t. t.number in_use below.0 below.2 below.3)
-
 pub returns-then-meets : goal.returns-then-meets
 returns-then-meets c =
     let shared = meets_shares c.args.slots.now c.loop-i.i c.loop-i.invariant.rooms c.room_set-room.ensures

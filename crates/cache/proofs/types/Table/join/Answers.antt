@@ -34,4 +34,4 @@ returns c =
     ap₂ (granted (slot_at a.self.now.slots a.j).number undo)
     (c.with_slots-next.ensures
     ∙ ap (λ (ss : List Slot). with_slots ss t) (c.joined.ensures ∙ slots_made a.self.now.slots change c.added-more.result a.j c.added-more.ensures))
-    (c.put.ensures ∙ image_made a.image.now change c.place.ensures)
+    (c.lay.ensures ∙ image_made a.image.now change c.place.ensures)

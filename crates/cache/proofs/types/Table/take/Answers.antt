@@ -59,7 +59,7 @@ returns c =
     create-granted t a.image.now a.undo.now change known.ready known.own
     c.if-self-eq-LAST_NEXT.false c.in_ok-j.j (free.there _ slot) c.in_ok-hold.hold
     (subst (HeldAs a.self.now.setting a.self.now.slots a.change.now.block) held known.held)
-    (seen c.with_patch.result) c.put.new.image c.keep.new.undo
+    (seen c.with_patch.result) c.lay.new.dst c.keep.new.undo
     (c.with_patch.ensures ∙ ap (λ (x : Slot). with_patch t x c.in_ok-j.j c.in_ok-hold.hold) c.patch-patch.ensures)
-    (c.put.ensures ∙ image_made a.image.now change c.place-at.ensures)
+    (c.lay.ensures ∙ image_made a.image.now change c.place-at.ensures)
     (c.keep.ensures ∙ undo_made a.undo.now a.image.now change c.in_ok-hold.hold c.place-at.ensures)
