@@ -17,7 +17,7 @@ fn turned_state(u: State) -> State
     }
 }
 
-// The slots with the patch in slot j.
+// The slots with the patch in slot j. That it is hard its state says too; `accepted_slots` takes both.
 pub fn accepted(slots: &[Slot; SLOTS], patch: Slot, j: usize, hold: Hold) -> [Slot; SLOTS]
     ensures { result ≡ accepted_slots slots.now patch j hold }
 {

@@ -30,8 +30,8 @@ fn would_be_hard(setting: Setting, slots: &[Slot; SLOTS], block: u32, waiting: u
     !all_soft(setting) && !slots.iter().any(|s| holds_back(s, block, waiting))
 }
 
-// The slot of the set whose number is lowest, the lowest such slot. (Tried: `filter` and `min_by_key`;
-// `returns` stayed open, as no lemma of std says of which slot a least one of a filtered list is.)
+// The slot of the set whose number is lowest, the lowest such slot. (Tried: `filter` and `min_by_key`, and
+// proved; create then took 28,744 bytes of stack, where board.h names 16,216.)
 fn lowest_numbered(slots: &[Slot; SLOTS], set: u64) -> Option<usize>
     ensures { LowestNumberedOr slots.now set 64 result }
 {

@@ -24,9 +24,9 @@ fn shares(o: u32, l: u32, p: u32, m: usize) -> bool
     requires { m < 2 ^ 63 }
     ensures { result ≡ shares o l p m }
 {
-    let end = o as u64 + l as u64;
-    let other_end = p as u64 + m as u64;
-    (o.max(p) as u64) < end.min(other_end)
+    let end = u64::from(o) + u64::from(l);
+    let other_end = u64::from(p) + m as u64;
+    u64::from(o.max(p)) < end.min(other_end)
 }
 
 // Whether the new patch must follow the patch of slot s. A hard patch of its block it follows wherever

@@ -1,7 +1,9 @@
 // The seven functions. Each reads the table from its bytes, calls the method of `cache` on
 // it and, granted, writes the next table back; the joint call does so twice. Every call writes the
 // numbers behind its pointers. The crate `board_c` exports them: that refusals, hold and state are numbers, and
-// what is said beside a refusal stands behind pointers, is the interface for C.
+// what is said beside a refusal stands behind pointers, is the interface for C, and so each match of an answer
+// stores what its call says. Where the bytes are no table, create and write look at their own buffers first, as
+// refusal 1 comes before 2.
 ghost use Rattle.std.specs.Prelude.{◌<◌, ◌≡◌};
 ghost use Rattle.std.proofs.Math.Option.{some};
 ghost use Rattle.rules.specs.Create.{change_of};

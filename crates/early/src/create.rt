@@ -52,7 +52,8 @@ fn judge_names(next: u32, change: &Change) -> Result<(), Refusal>
 }
 
 // The first of the refusals 1 to 7 that holds; `next` is the table's next number, and `sound` has something
-// where the table is sound: it is what a caller gets that may go on.
+// where the table is sound: it is what a caller gets that may go on. Image and undo area are two buffers of the
+// caller's, as in document 01.
 pub fn ready_to_create<T: Copy>(
     setting: Setting,
     next: u32,

@@ -1,4 +1,6 @@
-// Write's refusals 1 to 12. Number 13 asks for the set that may go, and is judged where it is known.
+// Write's refusals 1 to 12. Number 13 asks for the set that may go, and is judged where it is known. Not made of
+// create's tests and of `cache`'s for a block: refusal 1 is one test over three buffers, and the verdict on the table is
+// here already.
 ghost use Rattle.rules.specs.Calls.{answer_number};
 ghost use Rattle.early.specs.Early.{WriteEarly};
 
@@ -9,7 +11,8 @@ use slots::setting::undo_bytes;
 use slots::types::Patches;
 
 // The first of the refusals 1 to 12 that holds; `sound` says whether the table is (no more of the verdict is
-// needed, so nothing comes with it), and `on` has the block's patches.
+// needed, so nothing comes with it), and `on` has the block's patches. Image and undo area stay two buffers of the
+// caller's: create writes both, write reads both.
 pub fn ready_to_write(
     setting: Setting,
     image: &[u8],

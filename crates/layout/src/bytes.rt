@@ -1,6 +1,5 @@
 // The bytes of a number of any width, taken out of others and laid over them. `records` has the same
-// two, and they are not shared: a public function asks nothing of its caller, so it would have to clip
-// (tried: 385 instructions more for a table written, beside 5,428).
+// two, and they are not shared: a public function takes any bytes and any place, so it would have to clip.
 ghost use Rattle.std.specs.Prelude.{◌+◌, ◌≤◌, ◌≡◌, length};
 ghost use Rattle.spans.specs.Spans.{splice, part};
 

@@ -22,8 +22,8 @@ impl Text<'_> {
     {
         let end = self.len + digits(n);
         let mut rest = n;
-        // By index: the digits come from the last on, into a part of the buffer, and a chain that says so (`iter_mut`,
-        // `rev`, `take`) is no plainer.
+        // By index. (Tried: `iter_mut().rev()` over the part; `returns-clause-adds` stayed open, as after such a
+        // walk std promises the part's length and not its bytes.)
         for i in (self.len..end).rev() {
             self.buffer[i] = b'0' + (rest % 10) as u8;
             rest /= 10;

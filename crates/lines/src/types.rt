@@ -14,7 +14,8 @@ pub enum Word {
 }
 
 // What a granted write or create adds: how many patches went; the patch's number, and hard or soft. Three
-// cases, and so no Option.
+// cases, and so no Option. A patch's number and hold stand apart, as the line says them: `Created` is what the call
+// answers.
 #[derive(Clone, Copy, Debug, PartialEq, Eq)]
 pub enum More {
     Nothing,

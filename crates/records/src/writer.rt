@@ -1,5 +1,6 @@
 // The writer: for each call a function that puts its record into a lent buffer of 1,203 bytes and
-// answers how long it is. Its value's length is written also where the tag alone would tell it.
+// answers how long it is. Its value's length is written also where the tag alone would tell it. No heap: the
+// buffer is lent, and C is told how much of it counts.
 ghost use Rattle.std.specs.Prelude.{◌+◌, ◌*◌, ◌≤◌, ◌<◌, ◌++◌, ◌≡◌, length, MatchResult};
 ghost use Rattle.ground.specs.Decides.{Decides};
 ghost use Rattle.spans.specs.Spans.{splice};

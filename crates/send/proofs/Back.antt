@@ -1,54 +1,19 @@
--- Of the slots left behind, the one with the highest number: how a walk finds it, and that taking it back first and then the others is what back_down
--- says. Assumes nothing.
-use Prim.Native.Nat.{ℕ, ◌+◌, ◌≤◌, ◌<◌, ◌^◌}
+-- Of the slots left behind, the one with the highest number: that taking it back first and then the others is what back_down says. Assumes nothing.
+use Prim.Native.Nat.{ℕ, ◌<◌, ◌^◌}
 use mathlib.Core.Path.{◌≡◌, refl, sym, ap, ◌∙◌}
-use mathlib.Core.Bool.{Bool, true, ◌&&◌, ◌||◌, not, and-false}
+use mathlib.Core.Bool.{Bool, ◌&&◌, ◌||◌, not, and-false}
 use mathlib.Core.List.{List}
 use native.Mathlib.Omega.{arith}
-use borrow.Author.Count.{below_more}
 use borrow.Author.Tests.{eq-eqb}
 use lib.Dec.{eqb}
-use Rattle.std.proofs.Common.{Option, Some, None, IsSomeAnd}
+use Rattle.std.proofs.Common.{None}
 use Rattle.masks.specs.Sets.{has, set_of, how_many}
 use Rattle.ground.proofs.Decided.{clash, and-true}
 use Rattle.masks.proofs.Laws.{has_none, has_of, has_slot, set_lt, size_less}
 use Rattle.rules.specs.declared.Slot.{Slot}
-use Rattle.rules.specs.Table.{slot_at}
 use Rattle.rules.specs.Write.{taken_back, back_down}
 use Rattle.rules.proofs.TakenBack.{numbers_nowhere, highest_first}
 use Rattle.send.specs.Back.{Highest, HighestOr}
-
--- ---- a walk that looks for it
-
-module _ (ss : List Slot) (left top n : ℕ) where
-  -- the slot is not left behind, or has a number too high, or not above that of the best so far
-  pub best_stays : (r : Option ℕ) → HighestOr ss left top n r
-      → (has left n ≡ true → (slot_at ss n).number < top → IsSomeAnd r (λ b. (slot_at ss n).number ≤ (slot_at ss b).number)) → HighestOr ss left top (n + 1) r
-  best_stays None t f = below_more (λ (j : ℕ). has left j ≡ true → (slot_at ss j).number < top → ⊥) n t f
-  best_stays (Some b) t f = record {
-    within = omega (arith, t.within);
-    in_left = t.in_left;
-    low = t.low;
-    high = below_more (λ (j : ℕ). has left j ≡ true → (slot_at ss j).number < top → (slot_at ss j).number ≤ (slot_at ss b).number) n t.high f;
-    lowest = t.lowest;
-  }
-
-  pub best_changes : (r : Option ℕ) → HighestOr ss left top n r → has left n ≡ true → (slot_at ss n).number < top
-      → ((b : ℕ) → r ≡ Some b → (slot_at ss b).number < (slot_at ss n).number) → Highest ss left top (n + 1) n
-  best_changes r t p l above = record {
-    within = omega arith;
-    in_left = p;
-    low = l;
-    high = below_more (λ (j : ℕ). has left j ≡ true → (slot_at ss j).number < top → (slot_at ss j).number ≤ (slot_at ss n).number) n
-        (λ j k q h. let m = lower r t above j k q h in omega (arith, m))
-        (λ q h. omega arith);
-    lowest = λ j k q h. let m = lower r t above j k q (omega (arith, h)) in omega (arith, m, h);
-  }
-    where
-      lower : (o : Option ℕ) → HighestOr ss left top n o → ((b : ℕ) → o ≡ Some b → (slot_at ss b).number < (slot_at ss n).number)
-          → (j : ℕ) → j < n → has left j ≡ true → (slot_at ss j).number < top → (slot_at ss j).number < (slot_at ss n).number
-      lower None t above j k q h = absurd (t j k q h)
-      lower (Some b) t above j k q h = let m = t.high j k q h in omega (arith, m, above b refl)
 
 -- ---- a turn of the loop, and its end
 

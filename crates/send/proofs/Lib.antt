@@ -2,3 +2,5 @@
 pub mod Striking
 pub mod Back
 pub mod Handed
+pub mod ByKey
+pub mod Most

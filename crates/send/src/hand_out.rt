@@ -13,22 +13,18 @@ use rules::Slot;
 use rules::sizes::{BLOCK_BYTES, ROOM_BYTES, SLOTS};
 use slots::words::room_of;
 
-// Of the slots of `left`, the lowest with the highest number below `top`. No `max_by_key`: it takes the last
-// of several that are highest, so a chain would have to go backwards. Nor is it one function with `accept`'s
-// search for the lowest number: that would have to state the laws of an order to go by.
+// Of the slots of `left`, the lowest with the highest number below `top`. The chain goes from the last slot
+// down, as `max_by_key` takes the last of several that are highest.
 fn highest(slots: &[Slot; SLOTS], left: u64, top: u32) -> Option<usize>
     ensures { HighestOr slots.now left top 64 result }
 {
-    let mut best: Option<usize> = None;
-    for (i, s) in slots.iter().enumerate() {
-        if masks::has(left, i)
-            && s.number < top
-            && best.is_none_or(|b| slots[b].number < s.number)
-        {
-            best = Some(i);
-        }
-    }
-    best
+    slots
+        .iter()
+        .enumerate()
+        .filter(|(i, s)| masks::has(left, *i) && s.number < top)
+        .rev()
+        .max_by_key(|(_, s)| s.number)
+        .map(|(i, _)| i)
 }
 
 // The patch of slot s taken back.

@@ -77,7 +77,7 @@ impl Files {
         Ok(number)
     }
 
-    // A write of the block and, where it is granted, its completion; the answer is the write's.
+    // A write of the block, then its completion, which is refused where nothing was handed out; the answer is the write's.
     #[tactic(auto, using(rules::proofs::Rooms::rooms_most))]
     pub fn write_out(
         &mut self,

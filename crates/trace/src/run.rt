@@ -65,13 +65,14 @@ fn made_bad(kept: Kept) -> Made
         line: Line {
             place: kept.place,
             word: Word::Bad,
-            number: Refusal::NoRecord.number() as u64,
+            number: u64::from(Refusal::NoRecord.number()),
             more: More::Nothing,
         },
     }
 }
 
-// The call that was found, made.
+// The call that was found, made. That the bytes are its record stands in four functions: two speak of what
+// was found, two of its head, from which a creation is read.
 fn made_call(kept: Kept, image: &mut [u8], undo: &mut [u8], bytes: &[u8], found: Found) -> Made
     requires { only_in bytes.now ≡ next.Record found }
     ensures { Makes (run_of kept image.old undo.old) (call_in bytes.now found)

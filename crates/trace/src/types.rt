@@ -31,8 +31,8 @@ pub struct Made {
     pub line: Line,
 }
 
-// What a step gives back beside the line's bytes: how many these are, and whether the record was bad. That
-// is no flag over the other two: a bad record has its line and leaves something kept as any other.
+// What a step gives back beside the line's bytes: how many these are (no heap: their buffer is lent), and whether
+// the record was bad. That is no flag over the other two: a bad record has its line and leaves something kept as any other.
 #[derive(Clone, Copy, Debug, PartialEq, Eq)]
 pub struct Stepped {
     pub kept: Kept,

@@ -1,5 +1,6 @@
 // A session: what the caller of the cache keeps, and its calls. Each prints a line with the row, what the call
-// takes, and its whole answer.
+// takes, and its whole answer. `source_paper` has a session of its own (`files.rt`): it lends another undo area, and no
+// library stands between two programs. Where it prints is no part of it: that is lent, and a session is copied.
 use crate::row::Row;
 use crate::words::{After, Answer, Asked, Patch, Runs, Second, Slots, Stands, Waiting};
 use cache::types::Table;
