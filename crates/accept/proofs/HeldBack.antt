@@ -30,7 +30,7 @@ module _ (g : Setting) (ss : List Slot) (b : ℕ) {m : ℕ} (is-waiting : m ≡ 
   waiting_lt : m < 2 ^ 64
   waiting_lt = subst (λ (x : ℕ). x < 2 ^ 64) (sym is-waiting) (set_lt (waits_on ss b))
 
-  hard_holds_none : WouldBeHard g ss b → (k : ℕ) → k < slots → HoldsBack b m (slot_at ss k) → ⊥
+  pub hard_holds_none : WouldBeHard g ss b → (k : ℕ) → k < slots → HoldsBack b m (slot_at ss k) → ⊥
   hard_holds_none hard k l h =
       let i = h.2.0 in
       let c = has_slot m i waiting_lt h.2.2 in
@@ -48,7 +48,7 @@ module _ (g : Setting) (ss : List Slot) (b : ℕ) {m : ℕ} (is-waiting : m ≡ 
       absurd (none k l (q.0, λ n. clash (eq-eqb s.block b n) (not-true _ q.1), (i, r.0, waits i c ∙ r.1))))
       (λ e. e) (true_or_false (holds_back ss b k i))
 
-  none_holds_hard : all_soft g ≡ false → ((k : ℕ) → k < slots → HoldsBack b m (slot_at ss k) → ⊥) → WouldBeHard g ss b
+  pub none_holds_hard : all_soft g ≡ false → ((k : ℕ) → k < slots → HoldsBack b m (slot_at ss k) → ⊥) → WouldBeHard g ss b
   none_holds_hard rule none = record { not_all_soft = rule; nobody_holds = λ k i l c. nobody none k i l c }
 
   -- what a search for such a slot tells

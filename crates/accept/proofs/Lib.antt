@@ -1,4 +1,5 @@
 -- What the proofs of the functions share.
+pub mod SetOne
 pub mod FreeRooms
 pub mod One
 pub mod HeldBack

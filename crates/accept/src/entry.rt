@@ -56,7 +56,10 @@ pub fn entry_for(setting: Setting, slots: &[Slot; SLOTS], block: u32, taken: u64
             _ => Entry::Own(Some(Hold::Hard)),
         }
     } else {
-        let room = masks::lowest_outside(taken, rooms(setting));
-        Entry::Own(room.map(|r| Hold::Soft(r as u32)))
+        let n = rooms(setting);
+        match masks::lowest_outside(taken, n) {
+            Some(r) => Entry::Own(Some(Hold::Soft(r as u32))),
+            None => Entry::Own(None),
+        }
     }
 }

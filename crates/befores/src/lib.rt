@@ -4,18 +4,17 @@
 
 ghost use Rattle.std.specs.Prelude.{◌≡◌, ◌<◌, ◌^◌};
 ghost use Rattle.rules.specs.Create.{change_in, shares, befores, added};
-ghost use Rattle.befores.specs.OneSlot.{is_named, follows};
+ghost use Rattle.befores.specs.OneSlot.{is_named, follows, elsewhere};
 
 use rules::sizes::SLOTS;
 use rules::{Change, Slot};
-use slots::walks::set_where;
 use slots::words::{is_hard_patch, is_used};
 
 // Whether slot s has a named number. An old number is in no slot.
 fn is_named(s: &Slot, change: &Change) -> bool
     ensures { result ≡ is_named s.now (change_in change.now) }
 {
-    is_used(s.state) && change.named.contains(&s.number)
+    is_used(s.state) && change.named.iter().any(|n| *n == s.number)
 }
 
 // Whether two ranges share a byte: the later start is before the earlier end. The sums are of
@@ -40,10 +39,21 @@ fn follows(s: &Slot, change: &Change) -> bool
                 || is_used(s.state) && shares(s.offset, s.len, change.offset, change.bytes.len()))
 }
 
+// Whether slot s has a named number and a patch of another block.
+fn elsewhere(s: &Slot, change: &Change) -> bool
+    ensures { result ≡ elsewhere s.now (change_in change.now) }
+{
+    s.block != change.block && is_named(s, change)
+}
+
 pub fn befores(slots: &[Slot; SLOTS], change: &Change) -> u64
     ensures { result ≡ befores slots.now (change_in change.now) }
 {
-    set_where(slots, |s| follows(s, change))
+    let mut set = 0;
+    for (i, s) in slots.iter().enumerate() {
+        set = masks::with_if(set, i, follows(s, change));
+    }
+    set
 }
 
 // What a change that joins a patch adds to its befores. The hard patches of a block leave together, so
@@ -51,5 +61,9 @@ pub fn befores(slots: &[Slot; SLOTS], change: &Change) -> u64
 pub fn added(slots: &[Slot; SLOTS], change: &Change) -> u64
     ensures { result ≡ added slots.now (change_in change.now) }
 {
-    set_where(slots, |s| s.block != change.block && is_named(s, change))
+    let mut set = 0;
+    for (i, s) in slots.iter().enumerate() {
+        set = masks::with_if(set, i, elsewhere(s, change));
+    }
+    set
 }

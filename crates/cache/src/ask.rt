@@ -34,7 +34,9 @@ impl Table {
     pub fn count(self, block: u32) -> Result<u32, Refusal>
         ensures { Counts (seen self) block result }
     {
-        self.judge_block(block)?;
+        if let Err(refusal) = self.judge_block(block) {
+            return Err(refusal);
+        }
         Ok(patches_on(&self.slots, block).waiting.count_ones())
     }
 }

@@ -13,7 +13,8 @@ impl Table {
         ensures { Completes (seen self.now) block (completion (answered self.now result)) }
     {
         self.judge_block(block)?;
-        let landed = patches_on(&self.slots, block).in_flight;
+        let on = patches_on(&self.slots, block);
+        let landed = on.in_flight;
         if landed == 0 {
             return Err(Refusal::NoneInFlight);
         }

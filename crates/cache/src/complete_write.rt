@@ -27,6 +27,15 @@ impl Table {
             };
         };
         let written = completed.table.write(image, undo, handed, y);
+        let Ok(_) = written.answer else {
+            // Refused: the table that the completion left stands.
+            let stands = written.table;
+            return CompletedWritten {
+                table: stands,
+                first: completed.answer,
+                second: Some(written.answer),
+            };
+        };
         CompletedWritten {
             table: written.table,
             first: completed.answer,

@@ -64,5 +64,8 @@ pub fn meets(a: u64, b: u64) -> bool
 pub fn lowest_outside(set: u64, n: usize) -> Option<usize>
     ensures { LowestOr n (Outside set) result }
 {
-    (0..n).find(|&i| !has(set, i))
+    let Some(i) = (0..n).find(|&i| !has(set, i)) else {
+        return None;
+    };
+    Some(i)
 }

@@ -71,6 +71,10 @@ pub length_1 : (x : ℕ) → 1 ≡ length (high_first 1 x)
 unfolding high_first
 length_1 x = refl
 
+pub length_2 : (x : ℕ) → 2 ≡ length (high_first 2 x)
+unfolding high_first
+length_2 x = refl
+
 pub length_4 : (x : ℕ) → 4 ≡ length (high_first 4 x)
 unfolding high_first
 length_4 x = refl

@@ -11,6 +11,7 @@ pub mod Complete
 pub mod Ask
 pub mod Count
 pub mod Refusals
+pub mod Texts
 pub mod Passed
 pub mod Calls
 pub mod Joint

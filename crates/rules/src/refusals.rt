@@ -1,8 +1,9 @@
 // The refusals of document 01, by name and number, and the one of a record (document 02, request c).
 // specs/Refusals.antt says when each is given; that of a record, records/specs/Writer.antt.
-ghost use Rattle.std.specs.Prelude.{◌≡◌};
+ghost use Rattle.std.specs.Prelude.{◌≡◌, Some};
 ghost use Rattle.rules.specs.Refusals.{number_of};
 ghost use Rattle.rules.specs.Calls.{answer_number};
+ghost use Rattle.rules.specs.Texts.{refusal_text};
 
 use std::error::Error;
 use std::fmt;
@@ -49,6 +50,8 @@ pub fn answer_number<T>(answer: &Result<T, Refusal>) -> u32
 
 // The words are those of the board's setting, which has 16 rooms.
 impl fmt::Display for Refusal {
+    ghost output = { λ r. Some (refusal_text r) };
+
     fn fmt<W: fmt::Write>(&self, f: &mut fmt::Formatter<W>) -> fmt::Result {
         f.write_str(match self {
             Refusal::BufferSize => "a lent buffer has not its exact size",

@@ -3,6 +3,8 @@
 
 pub const SLOTS: usize = 64;
 
+pub const LAST_SLOT: usize = SLOTS - 1;
+
 pub const LAST_BLOCK: u32 = 63;
 
 // Undo rooms: on the board, and where undo is measured.

@@ -1,7 +1,7 @@
 -- A walk that sets each of the 64 slots by what it was: what holds at its head, how a turn keeps it, and that at the end each slot is set.
 -- The walks of the crates above cite these. Assumes nothing.
 use Prim.Native.Nat.{ℕ, ◌+◌, ◌≤◌, ◌<◌}
-use mathlib.Core.Path.{◌≡◌, refl, ap, ◌∙◌}
+use mathlib.Core.Path.{◌≡◌, refl, sym, ap, ◌∙◌}
 use mathlib.Core.List.{List}
 use native.Mathlib.Decide.{ℕ_discrete}
 use native.Mathlib.Omega.{arith}
@@ -38,6 +38,18 @@ module _ {turn : ℕ → Slot → Slot} {was : List Slot} where
       at : (k : ℕ) → k < i + 1 → Dec (k ≡ i) → slot_at (set now i s) k ≡ turn k (slot_at was k)
       at k b (yes q) = rw q here
       at k b (no n) = get_or-set_other now i k s free_slot n ∙ w.passed k (omega arith)
+
+  -- a slot that the turn leaves as it is need not be set
+  pub walk_passes : {now : List Slot} {i : ℕ} → Walked turn was now i → turn i (slot_at now i) ≡ slot_at now i → Walked turn was now (i + 1)
+  walk_passes {now} {i} w e = record {
+    size = w.size;
+    passed = λ k b. at k b (ℕ_discrete k i);
+    ahead = λ k b. w.ahead k (omega arith);
+  }
+    where
+      at : (k : ℕ) → k < i + 1 → Dec (k ≡ i) → slot_at now k ≡ turn k (slot_at was k)
+      at k b (yes q) = rw q (sym e ∙ ap (turn i) (w.ahead i (omega arith)))
+      at k b (no n) = w.passed k (omega arith)
 
   pub walk_ends : {now : List Slot} {i : ℕ} → Walked turn was now i → slots ≤ i → now ≡ slots_by (λ k. turn k (slot_at was k))
   walk_ends {now} w l = slots_are now (λ k. turn k (slot_at was k)) w.size (λ k b. w.passed k (omega arith))

@@ -1,5 +1,5 @@
 // The 64 slots as the calls read them: words on one slot, walks over all, the patches of a block,
-// whether a number was issued; a free slot; and what a setting says.
+// whether a number was issued; one slot made from another; and what a setting says.
 #![tactic(auto)]
 
 pub mod number;

@@ -1,6 +1,5 @@
-// Walks over the 64 slots: the slot of a number, and the set of the slots that pass a test.
-ghost use Rattle.std.specs.Fn.{FnReturnsAt};
-ghost use Rattle.slots.specs.Walks.{Found, SetWhere};
+// Walks over the 64 slots: the slot of a number, and the numbers alone.
+ghost use Rattle.slots.specs.Walks.{Found, NumbersOf};
 
 use crate::words::is_used;
 use rules::Slot;
@@ -15,14 +14,9 @@ pub fn find(slots: &[Slot; SLOTS], number: u32) -> Option<usize>
         .position(|s| s.number == number && is_used(s.state))
 }
 
-// The set of the slots that pass the test.
-pub fn set_where<F: Fn(&Slot) -> bool>(slots: &[Slot; SLOTS], test: F) -> u64
-    requires { F.IsAlwaysCallable test }
-    ensures { SetWhere (FnReturnsAt F.Fn test) slots.now result }
+// The numbers of the slots.
+pub fn numbers_of(slots: &[Slot; SLOTS]) -> [u32; SLOTS]
+    ensures { NumbersOf slots.now result }
 {
-    let mut set = 0;
-    for (i, s) in slots.iter().enumerate() {
-        set = masks::with_if(set, i, test(s));
-    }
-    set
+    std::array::from_fn(|i| slots[i].number)
 }

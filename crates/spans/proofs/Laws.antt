@@ -60,6 +60,17 @@ splice_whole [] (y ∷ ys) e = absurd (omega arith)
 splice_whole (x ∷ xs) [] e = absurd (omega arith)
 splice_whole (x ∷ xs) (y ∷ ys) e = ap (λ (r : List ℕ). y ∷ r) (splice_whole xs ys (omega arith))
 
+-- one byte more laid after the first j
+pub splice_more : (xs : List ℕ) (at : ℕ) (ys : List ℕ) (j : ℕ) → j < length ys
+    → set (splice xs at (take j ys)) (at + j) (get_or ys j 0) ≡ splice xs at (take (suc j) ys)
+unfolding splice
+splice_more [] at ys j l = refl
+splice_more (x ∷ xs) (suc at) ys j l = rw (suc-add at j) (ap (λ (r : List ℕ). x ∷ r) (splice_more xs at ys j l))
+splice_more (x ∷ xs) zero [] j l = absurd (omega arith)
+splice_more (x ∷ xs) zero (y ∷ ys) zero l = ap (λ (r : List ℕ). y ∷ r) (sym (splice_none xs zero))
+splice_more (x ∷ xs) zero (y ∷ ys) (suc j) l =
+    rw (zero-add (suc j)) (ap (λ (r : List ℕ). y ∷ r) (rw (zero-add j) at (splice_more xs zero ys j (omega arith))))
+
 -- a part of xs written anew is ys laid over it
 pub splice_part : (xs : List ℕ) (at k : ℕ) (ys : List ℕ) → k ≡ length ys → at + k ≤ length xs → put_mid at k xs ys ≡ splice xs at ys
 unfolding splice

@@ -5,15 +5,16 @@
 ghost use Rattle.std.specs.Prelude.{◌≡◌};
 ghost use Rattle.spans.specs.Spans.{splice, part};
 
-// Lays n bytes of src, from place `from`, over dst from place `at`, as far as both go.
+// Lays n bytes of src, from place `from`, over dst from place `at`, as far as both go. (Not by
+// `copy_from_slice`: the archive for C would need `memmove` for it, and it calls `memcpy` and `memset` alone.)
 pub fn copy(dst: &mut [u8], at: usize, src: &[u8], from: usize, n: usize)
     ensures { dst.new ≡ splice dst.old at (part src.now from n) }
 {
     let there = src.len().saturating_sub(from);
     let room = dst.len().saturating_sub(at);
     let m = n.min(there).min(room);
-    if m > 0 {
-        dst[at..at + m].copy_from_slice(&src[from..from + m]);
+    for j in 0..m {
+        dst[at + j] = src[from + j];
     }
 }
 

@@ -3,12 +3,12 @@
 #![tactic(auto)]
 
 ghost use Rattle.std.specs.Prelude.{◌≡◌, cond, ◌&&◌, eqb};
-ghost use Rattle.rules.specs.Slots.{is_used};
+ghost use Rattle.masks.specs.Sets.{has};
+ghost use Rattle.rules.specs.Slots.{is_used, is_in_flight};
 ghost use Rattle.tally.specs.Counts.{plus, one_more, carried, cleared, cut_landing};
 
 use rules::sizes::SLOTS;
 use rules::{Slot, State};
-use slots::walks::set_where;
 use slots::words::is_used;
 
 // A sum that stays at its most.
@@ -50,11 +50,19 @@ pub fn cleared(changes: &[u64; SLOTS], set: u64) -> [u64; SLOTS]
     std::array::from_fn(|i| if masks::has(set, i) { 0 } else { changes[i] })
 }
 
+// Whether a slot is in flight on a block whose bit is set.
+fn lands(s: &Slot, bits: u64) -> bool
+    ensures { result ≡ (is_in_flight s.now.state && has bits s.now.block) }
+{
+    matches!(s.state, State::InFlight(_)) && masks::has(bits, s.block as usize)
+}
+
 pub fn cut_landing(slots: &[Slot; SLOTS], bits: u64) -> u64
     ensures { result ≡ cut_landing slots.now bits }
 {
-    set_where(
-        slots,
-        |s| matches!(s.state, State::InFlight(_)) && masks::has(bits, s.block as usize),
-    )
+    let mut landed = 0;
+    for (i, s) in slots.iter().enumerate() {
+        landed = masks::with_if(landed, i, lands(s, bits));
+    }
+    landed
 }

@@ -1,11 +1,24 @@
--- `befores::befores` meets its contract: the test says of a slot what is_before says of it. Assumes nothing.
-use Rattle.std.proofs.Common.{rules, tests}
-use Rattle.rules.specs.Create.{change_in, is_before, befores}
-use Rattle.slots.proofs.SetWhere.{set_where_is}
+-- `befores::befores` meets its contract. The loop's invariant: the set so far is that of the slots passed that the patch follows.
+-- Assumes nothing.
+use mathlib.Core.Path.{◌≡◌, sym, ap, ◌∙◌}
+use native.Mathlib.Omega.{arith}
+use Rattle.masks.specs.Sets.{set_below}
+use Rattle.masks.proofs.Laws.{below_none, with_if_below}
+use Rattle.rules.specs.Create.{change_in, befores}
 use Rattle.befores.proofs.befores.Goals as goal
+use Rattle.befores.proofs.befores.Invariants.{passes}
+
+pub loop-i-init : goal.loop-i-init
+loop-i-init c = sym (below_none _)
+
+pub loop-i-preserved : goal.loop-i-preserved
+loop-i-preserved c =
+    let a = c.args in
+    let p = passes a.slots.now (change_in a.change.now) in
+    c.with_if-set.ensures ∙ with_if_below p c.loop-i.i _ _ c.loop-i.invariant c.loop-i-test.true c.follows.ensures
 
 pub returns : goal.returns
 unfolding befores
 returns c =
-    let a = c.args in
-    set_where_is (is_before a.slots.now (change_in a.change.now)) c.set_where.ensures c.set_where.type_inv (λ i r q. search (rules, tests))
+    let e : c.loop-i.i ≡ 64 = omega arith in
+    c.loop-i.invariant ∙ ap (set_below _) e

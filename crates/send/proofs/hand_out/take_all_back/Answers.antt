@@ -17,7 +17,7 @@ loop-i-preserved c =
     let rest = c.without-rest.ensures in (
       c.take_back.auto.out ∙ inv.0,
       rest_lt a.undo.now c.in-Some.ensures gone rest,
-      ap (back_down a.slots.now _ a.undo.now 0 a.top) c.take_back.ensures
+      ap (back_down a.slots.now _ a.undo.now 0 _) c.take_back.ensures
           ∙ sym (highest_back a.undo.now c.in-Some.ensures gone rest _)
           ∙ inv.2,
     )

@@ -17,13 +17,13 @@ returns-in_err-judge_block c =
 
 pub returns-then-landed-eq0 : goal.returns-then-landed-eq0
 returns-then-landed-eq0 c =
-    complete_none (seen c.args.self.now) c.args.block c.in_ok-judge_block.ensures (none_flies c.patches_on-landed.ensures c.if-landed-eq0.true)
+    complete_none (seen c.args.self.now) c.args.block c.in_ok-judge_block.ensures (none_flies c.patches_on-on.ensures c.if-landed-eq0.true)
 
 pub returns : goal.returns
 unfolding completed completed_slots
 returns c =
     let t = seen c.args.self.now in
-    let on = c.patches_on-landed.ensures in
+    let on = c.patches_on-on.ensures in
     rw (c.with_slots.ensures
     ∙ ap (λ (ss : List Slot). with_slots ss t) (c.completed.ensures ∙ ap (landed_slots c.args.self.now.slots) on.in-flight))
     (complete-granted t c.args.block c.in_ok-judge_block.ensures (some_flies on c.if-landed-eq0.false))

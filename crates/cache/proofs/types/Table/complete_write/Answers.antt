@@ -9,6 +9,13 @@ returns-in_default c =
     joint_stops (seen a.self) a.image.now a.undo.now a.handed.now a.x a.y (completion c.complete-completed.result) c.complete-completed.ensures _
     c.in_default.is
 
+-- refused or not, the write's answer is the second
+pub returns-in_default-answer : goal.returns-in_default-answer
+returns-in_default-answer c =
+    let a = c.args in
+    joint_goes (seen a.self) a.image.now a.undo.now a.handed.now a.x a.y (completion c.complete-completed.result) c.complete-completed.ensures
+    c.in-Ok.is _ c.write-written.ensures
+
 pub returns : goal.returns
 returns c =
     let a = c.args in

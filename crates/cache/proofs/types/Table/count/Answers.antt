@@ -11,4 +11,4 @@ pub returns : goal.returns
 returns c =
     let a = c.args in
     rw (ap ones c.patches_on.ensures.waiting ∙ ones_many (waits_on a.self.slots a.block) 64)
-    (count_granted (seen a.self) a.block c.in_ok-judge_block.ensures)
+    (count_granted (seen a.self) a.block c.in_default.ensures)
