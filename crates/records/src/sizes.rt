@@ -1,7 +1,5 @@
 // The sizes and tags of a record, as the code has them; specs/Record.antt says what they mean.
 
-use crate::tag::Tag;
-
 pub const RECORD_BYTES: usize = 1203;
 
 pub const MOST_VALUE: usize = 1200;
@@ -17,13 +15,13 @@ pub const CREATE_BYTES: usize = 4;
 // How many numbers a create's record can have.
 pub const MOST_NUMBERS: usize = 255;
 
-// The tags of a record, as numbers.
-pub const OPEN: u32 = Tag::Open as u32;
+// The tags of a record, as numbers, for who has no use for the enum; `tag` holds that to them.
+pub const OPEN: u32 = 1;
 
-pub const CREATE: u32 = Tag::Create as u32;
+pub const CREATE: u32 = 2;
 
-pub const WRITE: u32 = Tag::Write as u32;
+pub const WRITE: u32 = 3;
 
-pub const COMPLETE: u32 = Tag::Complete as u32;
+pub const COMPLETE: u32 = 4;
 
-pub const CUT: u32 = Tag::Cut as u32;
+pub const CUT: u32 = 5;

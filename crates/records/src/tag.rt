@@ -3,7 +3,7 @@ ghost use Rattle.std.specs.Prelude.{◌≡◌};
 ghost use Rattle.records.specs.Reader.{formed};
 ghost use Rattle.records.specs.Inside.{tag_number, IsTagged};
 
-use crate::sizes::{CREATE_BYTES, MOST_VALUE};
+use crate::sizes::{COMPLETE, CREATE, CREATE_BYTES, CUT, MOST_VALUE, OPEN, WRITE};
 
 #[derive(Clone, Copy, Debug, PartialEq, Eq)]
 pub enum Tag {
@@ -13,6 +13,18 @@ pub enum Tag {
     Complete = 4,
     Cut = 5,
 }
+
+// The enum and the numbers in `sizes` stand apart, so that neither file needs the other in a circle; where they
+// differ, this is refused.
+const _: () = prove!(Tag::Open as u32 == OPEN);
+
+const _: () = prove!(Tag::Create as u32 == CREATE);
+
+const _: () = prove!(Tag::Write as u32 == WRITE);
+
+const _: () = prove!(Tag::Complete as u32 == COMPLETE);
+
+const _: () = prove!(Tag::Cut as u32 == CUT);
 
 // A byte that is no tag.
 #[derive(Clone, Copy, Debug, PartialEq, Eq)]
