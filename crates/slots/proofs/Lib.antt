@@ -4,4 +4,5 @@ pub mod Made
 pub mod Members
 pub mod OnBlock
 pub mod One
+pub mod SetWhere
 pub mod Walked

@@ -1,7 +1,7 @@
 -- Between crates, need not be believed: what the walks over the slots give, in the words of `rules`.
-use Rattle.std.specs.Prelude.{ℕ, ◌<◌, ◌≡◌, true, List, Option, length, get_or}
+use Rattle.std.specs.Prelude.{ℕ, ◌<◌, ◌≡◌, Bool, true, List, Option, length, get_or}
 use Rattle.masks.specs.Lowest.{LowestOr}
-use Rattle.masks.specs.Sets.{set_of, some_below}
+use Rattle.masks.specs.Sets.{has, set_of, some_below}
 use Rattle.rules.specs.declared.Slot.{Slot}
 use Rattle.rules.specs.Sizes.{slots}
 use Rattle.rules.specs.Slots.{has_room}
@@ -20,6 +20,10 @@ Found ss n = LowestOr slots (Carries ss n)
 pub record NumbersOf (ss : List Slot) (ns : List ℕ) : Type 0 where
   pub count : length ns ≡ slots
   pub same : (i : ℕ) → i < slots → get_or ns i 0 ≡ (slot_at ss i).number
+
+-- m is the set of the slots that pass the test: of each slot, whether it is in m is what the test answers of it
+pub record SetWhere (test : Slot → Bool → Type 0) (ss : List Slot) (m : ℕ) : Type 0 where
+  pub at : (i : ℕ) → i < slots → test (slot_at ss i) (has m i)
 
 -- the set of the rooms that a slot has
 abbrev pub taken_rooms : List Slot → ℕ

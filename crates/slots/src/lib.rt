@@ -6,6 +6,8 @@ pub mod number;
 pub mod patches;
 pub mod setting;
 pub mod slot;
+#[cfg(test)]
+mod tests;
 pub mod types;
 pub mod walks;
 pub mod words;

@@ -1,5 +1,6 @@
-// Walks over the 64 slots: the slot of a number, and the numbers alone.
-ghost use Rattle.slots.specs.Walks.{Found, NumbersOf};
+// Walks over the 64 slots: the slot of a number, the set of the slots that pass a test, and the numbers alone.
+ghost use Rattle.std.specs.Fn.{FnReturnsAt};
+ghost use Rattle.slots.specs.Walks.{Found, NumbersOf, SetWhere};
 
 use crate::words::is_used;
 use rules::Slot;
@@ -12,6 +13,19 @@ pub fn find(slots: &[Slot; SLOTS], number: u32) -> Option<usize>
     slots
         .iter()
         .position(|s| s.number == number && is_used(s.state))
+}
+
+// The set of the slots that pass a test of the caller's, of which it asks that it can be called on any slot. The walks of
+// this repository stand where they are asked for, and none rests on it.
+pub fn set_where<F: Fn(&Slot) -> bool>(slots: &[Slot; SLOTS], test: F) -> u64
+    requires { F.IsAlwaysCallable test }
+    ensures { SetWhere (FnReturnsAt F.Fn test) slots.now result }
+{
+    let mut set = 0;
+    for (i, s) in slots.iter().enumerate() {
+        set = masks::with_if(set, i, test(s));
+    }
+    set
 }
 
 // The numbers of the slots.
