@@ -1,4 +1,4 @@
-// `set_where` is called here, as no other crate of this repository calls it: the walk with several tests of a caller's.
+// `set_where` called with several tests, as no crate of this repository calls it.
 use crate::walks::set_where;
 use crate::words::is_used;
 use rules::sizes::SLOTS;
