@@ -1,4 +1,4 @@
-// `set_where` called with several tests, as no crate of this repository calls it.
+// No crate of this repository calls `set_where`, so that nothing else runs it.
 use crate::walks::set_where;
 use crate::words::is_used;
 use rules::sizes::SLOTS;

@@ -15,8 +15,8 @@ pub fn find(slots: &[Slot; SLOTS], number: u32) -> Option<usize>
         .position(|s| s.number == number && is_used(s.state))
 }
 
-// The set of the slots that pass the caller's test. It asks only that the test can be called on any slot. For code outside
-// this repository: the walks in it stand where they are asked for, and none calls this one.
+// The set of the slots that pass the caller's test. It asks only that the test can be called on any slot. It is for
+// code outside this repository, whose own walks stand where they are asked for.
 pub fn set_where<F: Fn(&Slot) -> bool>(slots: &[Slot; SLOTS], test: F) -> u64
     requires { F.IsAlwaysCallable test }
     ensures { SetWhere (FnReturnsAt F.Fn test) slots.now result }
